@@ -1,0 +1,53 @@
+-- The flags of rfork, from Plan 9's libc.h, as bit numbers.
+use mathlib.Core.Bool.{Bool, not, _&&_, _||_}
+use Prim.Native.Nat.{ℕ, _/_, _%_, _^_}
+use lib.Dec.{eqb}
+
+-- Whether flags F have the bit n.
+unfoldable pub has : ℕ → ℕ → Bool
+has F n = eqb (F / 2 ^ n % 2) 1
+
+abbrev pub RFNAMEG : ℕ
+RFNAMEG = 0
+
+abbrev pub RFENVG : ℕ
+RFENVG = 1
+
+abbrev pub RFFDG : ℕ
+RFFDG = 2
+
+abbrev pub RFPROC : ℕ
+RFPROC = 4
+
+abbrev pub RFMEM : ℕ
+RFMEM = 5
+
+abbrev pub RFNOWAIT : ℕ
+RFNOWAIT = 6
+
+abbrev pub RFCNAMEG : ℕ
+RFCNAMEG = 10
+
+abbrev pub RFCENVG : ℕ
+RFCENVG = 11
+
+abbrev pub RFCFDG : ℕ
+RFCFDG = 12
+
+abbrev pub RFNOMNT : ℕ
+RFNOMNT = 14
+
+-- Bad: both of RFFDG/RFCFDG, RFNAMEG/RFCNAMEG or RFENVG/RFCENVG; RFMEM or RFNOWAIT without RFPROC; any of RFMEM, RFCNAMEG,
+-- RFCENVG, RFNOMNT. Other bits (RFNOTEG 3, RFREND 13 and all above) are ignored.
+unfoldable pub bad : ℕ → Bool
+bad F =
+    has F RFFDG && has F RFCFDG
+    || has F RFNAMEG && has F RFCNAMEG
+    || has F RFENVG && has F RFCENVG
+    || (has F RFMEM || has F RFNOWAIT) && not (has F RFPROC)
+    || (has F RFMEM || has F RFCNAMEG || has F RFCENVG || has F RFNOMNT)
+
+-- All of this module, for whoever computes with it.
+unfoldable pub openFlags : Unit {0}
+unfolding has bad
+openFlags = tt

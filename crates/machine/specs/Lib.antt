@@ -1,0 +1,22 @@
+-- The definitions, in the order in which to read them.
+pub mod Basics
+pub mod Machine
+pub mod Update
+pub mod Step
+pub mod Outcome
+pub mod Message
+pub mod Flags
+pub mod Places
+pub mod Exits
+pub mod Timers
+pub mod TimersLaws
+pub mod Table
+pub mod Perform
+pub mod StepOf
+pub mod Bytes
+pub mod BytesLaws
+pub mod Parse
+pub mod Print
+pub mod Listing
+pub mod Starred
+pub mod Good
