@@ -37,6 +37,11 @@ unfoldable pub count : ℕ → List ℕ → ℕ
 count i [] = 0
 count i (x ∷ xs) = (if eqb i x then 1 else 0) + count i xs
 
+-- whether every element of a list passes a test
+unfoldable pub all : {A : Type 0} → (A → Bool) → List A → Bool
+all test [] = true
+all test (x ∷ xs) = test x && all test xs
+
 -- how many elements of a list pass a test
 unfoldable pub countThat : {A : Type 0} → (A → Bool) → List A → ℕ
 countThat test [] = 0
@@ -91,5 +96,5 @@ ascii (c then s) = code c ∷ ascii s
 
 -- All of this module, for whoever computes with it.
 unfoldable pub openBasics : Unit {0}
-unfolding elem count countThat filter concatMap present firstThat highestBelow numbersFrom same ascii
+unfolding elem count all countThat filter concatMap present firstThat highestBelow numbersFrom same ascii
 openBasics = tt

@@ -8,7 +8,7 @@ use lib.Dec.{eqb, leb, ltb}
 use lib.Text.{eqt}
 use lib.ListN.{length}
 use Rattle.clock.specs.Counts.{countsOf, zeroDuration, shorter}
-use Rattle.machine.specs.Basics.{if_then_else_, isSome, isNone, isEmpty, elem}
+use Rattle.machine.specs.Basics.{if_then_else_, isSome, isNone, isEmpty, all}
 use Rattle.machine.specs.Machine.{Machine, Sizes, Process, Queued, Resume, nothing, inSleep, inTsleep, inQlock, inWait, process, sleeper, lock, condition}
 use Rattle.machine.specs.Step.{Step, Body, start, rfork, name, sched, yield, sleep, tsleep, wakeup, qlock, canqlock, qunlock, cond, clock, tadd, tdel, intr, due, exit, wait, Fields, numbers, bytes, wordOf, fieldsOf}
 use Rattle.machine.specs.Flags.{has, bad, RFPROC}
@@ -42,12 +42,16 @@ on n word test b = eqt (wordOf b) word && passes n test (numbersIn (fieldsOf b))
 unfoldable pub running : (ℕ → Bool) → Machine → Bool
 running test m = elim (m .up) [ none ↦ false | some i ↦ test i ]
 
+-- BYTES are numbers below 256.
+unfoldable pub allBytes : List ℕ → Bool
+allBytes bs = all (λ b. ltb b 256) bs
+
 -- R, C, Q, T: one Rendez, condition, lock, timer. M: 0 to 2, and 3 (rfork only). KIND and V: 0 or 1. S and NOW: 64 bits, N below
 -- 1,000,000,000. F: 32 bits. A name is at most 28 bytes. tadd and tdel not of timer 0.
 unfoldable pub inRange : Sizes → Body → Bool
 inRange z (start M) = leb M 2
 inRange z (rfork F M) = ltb F (2 ^ 32) && leb M 3
-inRange z (name BYTES) = leb (length BYTES) 28
+inRange z (name BYTES) = leb (length BYTES) 28 && allBytes BYTES
 inRange z sched = true
 inRange z yield = true
 inRange z (sleep R C) = ltb R (z .rendez) && ltb C 256
@@ -63,7 +67,7 @@ inRange z (tadd T KIND S N R NOW) =
 inRange z (tdel T) = leb 1 T && ltb T (z .timers)
 inRange z (intr NOW) = ltb NOW (2 ^ 64)
 inRange z due = true
-inRange z (exit BYTES) = true
+inRange z (exit BYTES) = allBytes BYTES
 inRange z wait = true
 
 unfoldable pub heldLock : Machine → ℕ → Bool
@@ -210,5 +214,5 @@ refusal m s = firstOf (order (s .body)) m s
 
 -- All of this module, for whoever computes with it.
 unfoldable pub openTable : Unit {0}
-unfolding oneOf passes numbersIn on running inRange heldLock taken takenAgain headTaken makes badNow longCounts table order holds firstOf refusal
+unfolding oneOf passes numbersIn on running allBytes inRange heldLock taken takenAgain headTaken makes badNow longCounts table order holds firstOf refusal
 openTable = tt
