@@ -39,10 +39,12 @@ unfoldable pub decodeForm : Form → List ℕ → Option Body
 decodeForm (takesNumbers n f) s = if eqb (length s) (2 + 8 * n) then fill n f (numbersAt n s 2) else none
 decodeForm (takesBytes f) s = if leb 6 (length s) && eqb (length s) (6 + le 4 s 2) then some (f (drop 6 s)) else none
 
+-- The kind of step that the kind byte names.
 unfoldable pub decodeBody : List Kind → List ℕ → Option Body
 decodeBody [] s = none
 decodeBody (k ∷ ks) s = elim (eqb (k .number) (getD s 0 0)) [ true ↦ decodeForm (k .form) s | false ↦ decodeBody ks s ]
 
+-- The context byte: 1 where marked, else 0; any other is no step.
 unfoldable pub marking : ℕ → Option Body → Option Step
 marking mark none = none
 marking mark (some b) =
@@ -50,6 +52,7 @@ marking mark (some b) =
     then some (record { marked = false; body = b })
     else if eqb mark 1 then some (record { marked = true; body = b }) else none
 
+-- The step that bytes are, if they are one.
 unfoldable pub decode : List ℕ → Option Step
 decode s = if ltb (length s) 2 then none else marking (getD s 1 0) (decodeBody kinds s)
 

@@ -16,11 +16,12 @@ use Rattle.machine.specs.Basics.{concatMap}
 use Rattle.machine.specs.Step.{Step, Body, Takes, takesNumbers, takesBytes, start, rfork, name, sched, yield, sleep, tsleep, wakeup, qlock, canqlock, qunlock, cond, clock, tadd, tdel, intr, due, exit, wait, Fields, numbers, bytes, kinds, fill, wordOf, fieldsOf}
 use Rattle.machine.specs.Bytes.{bytesOf, kindNumber, encodeFields, encode, numbersAt, decodeForm, decodeBody, marking, decode}
 
--- What can be encoded: each field is a number below 2^64, and a byte string is shorter than 2^32 bytes.
+-- Each of some numbers is below n. What can be encoded: fields below 2^64, and a byte string shorter than 2^32 bytes.
 abbrev pub AllBelow : ℕ → List ℕ → Type 0
 AllBelow n [] = Unit {0}
 AllBelow n (x ∷ xs) = (x < n) × AllBelow n xs
 
+-- Fields that can be encoded.
 abbrev pub Encodable : Fields → Type 0
 Encodable (numbers xs) = AllBelow (2 ^ 64) xs
 Encodable (bytes bs) = length bs < 2 ^ 32

@@ -7,33 +7,43 @@ use lib.Dec.{eqb}
 unfoldable pub has : ℕ → ℕ → Bool
 has F n = eqb (F / 2 ^ n % 2) 1
 
+-- fork(2): copy the name space
 abbrev pub RFNAMEG : ℕ
 RFNAMEG = 0
 
+-- fork(2): copy the environment
 abbrev pub RFENVG : ℕ
 RFENVG = 1
 
+-- fork(2): copy the descriptor table
 abbrev pub RFFDG : ℕ
 RFFDG = 2
 
+-- fork(2): make a new process
 abbrev pub RFPROC : ℕ
 RFPROC = 4
 
+-- fork(2): share memory
 abbrev pub RFMEM : ℕ
 RFMEM = 5
 
+-- fork(2): the child is dissociated: its exit leaves no message for the parent
 abbrev pub RFNOWAIT : ℕ
 RFNOWAIT = 6
 
+-- fork(2): clean name space
 abbrev pub RFCNAMEG : ℕ
 RFCNAMEG = 10
 
+-- fork(2): empty environment
 abbrev pub RFCENVG : ℕ
 RFCENVG = 11
 
+-- fork(2): empty descriptor table
 abbrev pub RFCFDG : ℕ
 RFCFDG = 12
 
+-- fork(2): no later mounts
 abbrev pub RFNOMNT : ℕ
 RFNOMNT = 14
 

@@ -29,6 +29,7 @@ abbrev pub Each : {A : Type 0} → (A → Type 0) → List A → Type 0
 Each P [] = Unit {0}
 Each P (x ∷ xs) = P x × Each P xs
 
+-- A byte is a number below 256.
 abbrev pub Byte : ℕ → Type 0
 Byte b = b < 256
 
@@ -60,6 +61,7 @@ pub record SettingInRange (z : Sizes) (s : Setting) : Type 0 where
   pub period : (s .period ≡ 0) ⊎ ((countsOf (z .hz) 0 100000 ≤ s .period) × (s .period ≤ 2 ^ 63 - 1))
   pub rendez : s .rendez < z .rendez
 
+-- A queued timer is a kernel timer or one of a record, and its deadline has 64 bits.
 pub record QueuedInRange (z : Sizes) (x : Queued) : Type 0 where
   pub timer : x .timer < z .timers + z .processes
   pub deadline : x .deadline < 2 ^ 64
@@ -81,14 +83,16 @@ pub record InRange (m : Machine) : Type 0 where
   -- a free record holds nothing
   pub freed : (i : ℕ) → pidOf m i ≡ 0 → process m i ≡ free
 
+-- Record i has a living process.
 abbrev pub Lives : Machine → ℕ → Type 0
 Lives m i = 0 < pidOf m i
 
--- The places of demand 3, one after another: running, in the run queue, on a Rendez, in a lock's queue.
+-- Who runs, as a list.
 unfoldable pub runningIn : Option ℕ → List ℕ
 runningIn none = []
 runningIn (some i) = i ∷ []
 
+-- The places of a process (01's demand 3), one after another: running, in the run queue, on a Rendez or waitr, in a lock's queue.
 unfoldable pub places : Machine → List ℕ
 places m = runningIn (m .up) ++ m .run ++ asleepOn m
 
@@ -105,6 +109,7 @@ SleepsOn r (inTsleep r′ c) = r′ ≡ r
 SleepsOn r (inQlock q) = ⊥
 SleepsOn r inWait = ⊥
 
+-- The same for every place of the machine.
 pub record CallsFit (m : Machine) : Type 0 where
   pub runner : (i : ℕ) → m .up ≡ some i → process m i .resume ≡ nothing
   pub sleeper : (r i : ℕ) → sleeper m r ≡ some i → SleepsOn r (process m i .resume)
@@ -128,6 +133,7 @@ IsTsleep (inTsleep r c) = Unit {0}
 IsTsleep (inQlock q) = ⊥
 IsTsleep inWait = ⊥
 
+-- The whole paragraph.
 pub record Good (m : Machine) : Type 0 where
   -- its sizes and fields are in range
   pub inRange : InRange m

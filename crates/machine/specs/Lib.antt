@@ -19,4 +19,5 @@ pub mod Parse
 pub mod Print
 pub mod Listing
 pub mod Starred
+pub mod Unlisted
 pub mod Good

@@ -24,6 +24,7 @@ printFrom n m [] = []
 printFrom n m (l ∷ ls) =
     let o : Outcome = outcomeOf m (parseLine l) 127 in printLine n (o .reply) (o .after) ++ printFrom (suc n) (o .after) ls
 
+-- The first line names the fields.
 unfoldable pub header : List ℕ
 header = ascii "step;answer;up;queue;asleep;ticks" ++ 10 ∷ []
 
@@ -32,6 +33,7 @@ unfoldable pub openDefinitions : Unit {0}
 unfolding nanosOf countsOf zeroDuration shorter openBasics openMachine openUpdate openStep openMessage openFlags openPlaces openExits openTimers openTable openOutcome openPerform openStepOf openParse openPrint printFrom header
 openDefinitions = tt
 
+-- The listing of an input, from a fresh machine of these sizes.
 unfoldable pub listingAt : Sizes → List ℕ → List ℕ
 unfolding openDefinitions
 listingAt z input = header ++ printFrom 1 (fresh z) (linesOf input)
@@ -40,6 +42,7 @@ listingAt z input = header ++ printFrom 1 (fresh z) (linesOf input)
 unfoldable pub stepsSizes : Sizes
 stepsSizes = record { processes = 16; rendez = 16; locks = 16; timers = 16; cells = 256; hz = 1000000 }
 
+-- The listing that `steps` writes.
 unfoldable pub listing : List ℕ → List ℕ
 unfolding listingAt stepsSizes
 listing input = listingAt stepsSizes input

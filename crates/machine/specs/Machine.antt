@@ -60,6 +60,7 @@ pub record Queued : Type 0 where
   pub timer : ℕ
   pub deadline : ℕ
 
+-- The machine: the sizes, the next pid, ticks and the last NOW, who runs and waits where, the timers and the conditions.
 pub record Machine : Type 0 where
   pub sizes : Sizes
   pub nextPid : ℕ
@@ -113,19 +114,23 @@ fresh z =
     once : Setting
     once = record { period = 0; rendez = 0 }
 
--- What stands at a number.
+-- The record with a number.
 unfoldable pub process : Machine → ℕ → Process
 process m i = getD (m .processes) i free
 
+-- Who sleeps on a Rendez, if anyone.
 unfoldable pub sleeper : Machine → ℕ → Option ℕ
 sleeper m r = getD (m .sleepers) r none
 
+-- The lock with a number.
 unfoldable pub lock : Machine → ℕ → Lock
 lock m q = getD (m .locks) q (record { held = false; waiters = [] })
 
+-- What the kernel timer with a number does.
 unfoldable pub setting : Machine → ℕ → Setting
 setting m t = getD (m .settings) t (record { period = 0; rendez = 0 })
 
+-- Whether a condition is true.
 unfoldable pub condition : Machine → ℕ → Bool
 condition m c = getD (m .conditions) c false
 

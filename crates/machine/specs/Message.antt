@@ -11,6 +11,7 @@ unfoldable pub digits : ℕ → ℕ → List ℕ
 digits zero n = (48 + n) ∷ []
 digits (suc fuel) n = elim (ltb n 10) [ true ↦ (48 + n) ∷ [] | false ↦ digits fuel (n / 10) ++ (48 + n % 10) ∷ [] ]
 
+-- A number in decimal.
 unfoldable pub decimal : ℕ → List ℕ
 decimal n = digits n n
 

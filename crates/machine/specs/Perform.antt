@@ -163,6 +163,7 @@ qunlockOf Q m = go (handOver Q m)
     go : Woken → Outcome
     go w = readying (w .readied) Answer.done (w .machine)
 
+-- `cond`: the condition C becomes true or false.
 unfoldable pub condOf : ℕ → ℕ → Machine → Outcome
 condOf C v m = answered Answer.done (withCondition C (eqb v 1) m)
 
@@ -179,6 +180,7 @@ taddOf T KIND S N R NOW m =
     counts : ℕ
     counts = countsOf (m .sizes .hz) S N
 
+-- `tdel`: timer T is no longer queued.
 unfoldable pub tdelOf : ℕ → Machine → Outcome
 tdelOf T m = answered Answer.done (delete T m)
 
@@ -200,6 +202,7 @@ intrOf NOW m = go (interrupt NOW (withLastNow NOW m))
 unfoldable pub preemptDue : Machine → Bool
 preemptDue m = elim (m .up) [ none ↦ false | some i ↦ if leb (process m i .quantumEnd) (m .ticks) then not (isEmpty (m .run)) else false ]
 
+-- `due` answers yes or no.
 unfoldable pub dueOf : Machine → Outcome
 dueOf m = answered (Answer.yesNo (preemptDue m)) m
 

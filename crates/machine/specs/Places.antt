@@ -23,7 +23,7 @@ wake r m = go (sleeper m r)
     go none = record { machine = m; readied = [] }
     go (some i) = record { machine = ready i (withSleeper r none m); readied = pidOf m i ∷ [] }
 
--- The running process goes asleep on Rendez r, to resume there.
+-- The process i goes asleep on Rendez r, to resume there.
 unfoldable pub sleepOn : ℕ → ℕ → Resume → Machine → Machine
 sleepOn i r resume m = withUp none (withSleeper r (some i) (withProcess i (withResume resume (process m i)) m))
 

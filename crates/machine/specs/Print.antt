@@ -23,6 +23,7 @@ printAnswer (Answer.child n message) = ascii "child " ++ decimal n ++ ascii " " 
 printAnswer Answer.idle = ascii "idle"
 printAnswer Answer.end = ascii "end"
 
+-- An answer, or `refused N`.
 unfoldable pub printReply : Reply → List ℕ
 printReply (answer a) = printAnswer a
 printReply (refused n) = ascii "refused " ++ decimal n
@@ -31,11 +32,12 @@ printReply (refused n) = ascii "refused " ++ decimal n
 unfoldable pub printUp : Machine → List ℕ
 printUp m = elim (m .up) [ none ↦ ascii "0" | some i ↦ decimal (pidOf m i) ]
 
--- The run queue or -.
+-- Pids, a comma before each.
 unfoldable pub commaBefore : List ℕ → Machine → List ℕ
 commaBefore [] m = []
 commaBefore (i ∷ is) m = ascii "," ++ decimal (pidOf m i) ++ commaBefore is m
 
+-- The run queue or -.
 unfoldable pub printQueue : Machine → List ℕ
 printQueue m = elim (m .run) [ [] ↦ ascii "-" | i ∷ is ↦ decimal (pidOf m i) ++ commaBefore is m ]
 

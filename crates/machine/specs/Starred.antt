@@ -21,16 +21,19 @@ pub data Example : Type 0 where
   messageFor : (name : List ℕ) (pid : ℕ) (status bytes : List ℕ) → Example
   repliesTo : (steps : List Body) (replies : List Reply) → Example
 
+-- The replies to steps that follow one another from a machine.
 unfoldable pub repliesFrom : Machine → List Body → List Reply
 repliesFrom m [] = []
 repliesFrom m (b ∷ bs) =
     let o : Outcome = stepOf m (record { marked = false; body = b }) in o .reply ∷ repliesFrom (o .after) bs
 
+-- What an example says.
 abbrev pub Holds : Example → Type 0
 Holds (countsOfDuration seconds nanoseconds hz counts) = countsOf hz seconds nanoseconds ≡ counts
 Holds (messageFor name pid status bytes) = message name pid status ≡ bytes
 Holds (repliesTo steps replies) = repliesFrom (fresh stepsSizes) steps ≡ replies
 
+-- What a list of examples says.
 abbrev pub AllHold : List Example → Type 0
 AllHold [] = Unit {0}
 AllHold (e ∷ es) = Holds e × AllHold es
@@ -43,9 +46,11 @@ letters n = replicate n 122
 unfoldable pub oneRuns : List Body
 oneRuns = start 0 ∷ sched ∷ []
 
+-- And their replies.
 unfoldable pub itRuns : List Reply
 itRuns = answer (Answer.pid 1) ∷ answer (Answer.run 1) ∷ []
 
+-- The table.
 unfoldable pub starred : List Example
 unfolding letters oneRuns itRuns
 starred =

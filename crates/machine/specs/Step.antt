@@ -39,6 +39,7 @@ abbrev pub Takes : ℕ → Type 0
 Takes zero = Body
 Takes (suc n) = ℕ → Takes n
 
+-- What fields a kind of step has.
 pub data Form : Type 0 where
   takesNumbers : (n : ℕ) → Takes n → Form
   takesBytes : (List ℕ → Body) → Form
@@ -49,6 +50,7 @@ pub record Kind : Type 0 where
   pub word : String
   pub form : Form
 
+-- The nineteen kinds, in 01's order.
 unfoldable pub kinds : List Kind
 kinds =
     record { number = 1; word = "start"; form = takesNumbers 1 start }
@@ -101,10 +103,12 @@ wordOf due = "due"
 wordOf (exit BYTES) = "exit"
 wordOf wait = "wait"
 
+-- The fields of a step: numbers, or one string of bytes.
 pub data Fields : Type 0 where
   numbers : List ℕ → Fields
   bytes : List ℕ → Fields
 
+-- The fields of a body.
 unfoldable pub fieldsOf : Body → Fields
 fieldsOf (start M) = numbers (M ∷ [])
 fieldsOf (rfork F M) = numbers (F ∷ M ∷ [])

@@ -17,9 +17,11 @@ unfoldable pub leftBy : ℕ → Body → Machine → Machine
 leftBy number b m =
     if eqb number 11 && on 2 "rfork" (λ F M. eqb M 3) b then withNextPid (suc (m .nextPid)) m else m
 
+-- A refused step returns only the number, and readies and dispatches nobody.
 unfoldable pub refusing : ℕ → Machine → Outcome
 refusing number m = record { reply = refused number; after = m; readied = []; dispatched = []; fired = 0 }
 
+-- A step is refused where the table says, otherwise done.
 unfoldable pub stepOf : Machine → Step → Outcome
 stepOf m s = go (refusal m s)
   where

@@ -25,11 +25,13 @@ abbrev pub Test : ℕ → Type 0
 Test zero = Bool
 Test (suc n) = ℕ → Test n
 
+-- The test passes on the first n of these numbers; it fails where there are fewer.
 unfoldable pub passes : (n : ℕ) → Test n → List ℕ → Bool
 passes zero test xs = test
 passes (suc n) test [] = false
 passes (suc n) test (x ∷ xs) = passes n (test x) xs
 
+-- The numbers among a step's fields; BYTES are none.
 unfoldable pub numbersIn : Fields → List ℕ
 numbersIn (numbers xs) = xs
 numbersIn (bytes bs) = []
@@ -70,6 +72,7 @@ inRange z due = true
 inRange z (exit BYTES) = allBytes BYTES
 inRange z wait = true
 
+-- Whether a lock is held.
 unfoldable pub heldLock : Machine → ℕ → Bool
 heldLock m q = lock m q .held
 
@@ -85,6 +88,7 @@ takenAgain m i (inTsleep r c) = isQueued (ownTimer i m) m && taken m r c
 takenAgain m i (inQlock q) = false
 takenAgain m i inWait = false
 
+-- The first of the run queue is such a sleeper.
 unfoldable pub headTaken : Machine → Bool
 headTaken m = elim (m .run) [ [] ↦ false | i ∷ rest ↦ takenAgain m i (process m i .resume) ]
 
@@ -92,12 +96,15 @@ headTaken m = elim (m .run) [ [] ↦ false | i ∷ rest ↦ takenAgain m i (proc
 unfoldable pub makes : Body → Bool
 makes b = on 1 "start" (λ M. true) b || on 2 "rfork" (λ F M. has F RFPROC) b
 
+-- NOW below the last accepted one or over 2^51 − 1.
 unfoldable pub badNow : Machine → ℕ → Bool
 badNow m NOW = ltb NOW (m .lastNow) || ltb (2 ^ 51 - 1) NOW
 
+-- Counts over 2^63 − 1.
 unfoldable pub longCounts : Machine → ℕ → ℕ → Bool
 longCounts m S N = ltb (2 ^ 63 - 1) (countsOf (m .sizes .hz) S N)
 
+-- A row of the table: its number, and its cause as a test on the machine and the step.
 pub record Row : Type 0 where
   pub number : ℕ
   pub cause : Machine → Step → Bool
@@ -209,6 +216,7 @@ unfoldable pub firstOf : List ℕ → Machine → Step → Option ℕ
 firstOf [] m s = none
 firstOf (n ∷ ns) m s = elim (holds n table m s) [ true ↦ some n | false ↦ firstOf ns m s ]
 
+-- The number that a step meets, if any: its causes are tested in its order.
 unfoldable pub refusal : Machine → Step → Option ℕ
 refusal m s = firstOf (order (s .body)) m s
 

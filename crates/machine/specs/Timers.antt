@@ -22,6 +22,7 @@ remove t xs = filter (λ (x : Queued). not (eqb (x .timer) t)) xs
 unfoldable pub add : ℕ → ℕ → Machine → Machine
 add t deadline m = withQueued (insert (record { timer = t; deadline = deadline }) (remove t (m .queued))) m
 
+-- A timer that is deleted is no longer queued.
 unfoldable pub delete : ℕ → Machine → Machine
 delete t m = withQueued (remove t (m .queued)) m
 
@@ -93,6 +94,7 @@ unfoldable pub firingsOwed : ℕ → List Queued → ℕ
 firingsOwed now [] = 0
 firingsOwed now (x ∷ xs) = (suc now - x .deadline) + firingsOwed now xs
 
+-- `interrupt` at a reading of the clock.
 unfoldable pub interrupt : ℕ → Machine → Firing
 interrupt now m = fireDue (firingsOwed now (m .queued)) now (record { machine = m; count = 0; ticks = 0; readied = [] })
 
