@@ -61,6 +61,14 @@ counts-in p r q k c e =
       cells = between-true 1 65000 c (x .1);
     }
 
+-- sizes that fit are in range
+pub sizes-fit : (p r q k c hz : ℕ) → sizesFit p r q k c hz ≡ true → SizesInRange (sizesFor p r q k c hz)
+unfolding sizesFit
+sizes-fit p r q k c hz e =
+    let x : (countsFit p r q k c ≡ true) × (between 1 4294967295 hz ≡ true) = both-true (countsFit p r q k c) (between 1 4294967295 hz) e in
+    let h : CountsIn p r q k c = counts-in p r q k c (x .0) in
+    record { processes = h .processes; rendez = h .rendez; locks = h .locks; timers = h .timers; cells = h .cells; hz = between-true 1 4294967295 hz (x .1) }
+
 -- what the tests show of the sizes
 pub sizes-any : {p r q k c : ℕ} {t : Bool} → CountsFit p r q k c t → not t ≡ false → SizesInRange (sizesFor p r q k c 1)
 sizes-any {p} {r} {q} {k} {c} {t} f e =

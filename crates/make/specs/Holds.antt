@@ -1,6 +1,6 @@
 -- The memory of a fresh state holds a fresh machine, by the layout's rules.
 use mathlib.Core.Path.{_≡_, refl, sym, ap, subst, _∙_}
-use mathlib.Core.Bool.{Bool, true, false, _&&_}
+use mathlib.Core.Bool.{Bool, true, false, not, _&&_}
 use mathlib.Core.List.{List, [], _∷_, _++_, map, reverse}
 use mathlib.Core.Option.{Option, none}
 use Prim.Native.Nat.{ℕ, zero, suc, _+_, _-_, _*_, _^_, _≤_, _<_}
@@ -19,7 +19,9 @@ use Rattle.chain.specs.Links.{walk, Links, Chain, Queue, alter-other}
 use Rattle.state.specs.Fields as fields
 use Rattle.state.specs.Abs.{sizesOf, memoryOf, table, linkTo, isSet, runList, waiterList, timerList, exitList, processAt, machineOf, abs}
 use Rattle.state.specs.WellFormed.{markValue, Used, Tagged, Queues, Cells, Ages, ageList, Rising, bits, inUse, isFull, Index, Rep, WellFormed}
-use Rattle.make.specs.Fresh.{totalFor, freshStores, freshBytes}
+use Rattle.kept.specs.Fresh.{good-fresh}
+use Rattle.make.specs.Fresh.{sizesFit, sizesFor, totalFor, freshStores, freshBytes, makeAnswer, makeBytes}
+use Rattle.make.specs.Answers.{sizes-fit}
 use Rattle.make.specs.Made.{fresh-state, fresh-memory, fresh-sizes}
 
 -- the memory of a fresh state
@@ -197,5 +199,26 @@ module _ (z : Sizes) (h : SizesInRange z) (s : List ℕ) where
       }
 
   -- So it is well formed, since a fresh machine keeps the rules.
-  pub fresh-well : Good (fresh z) → WellFormed (freshBytes z s)
-  fresh-well g = record { rep = fresh-rep; good = subst Good (sym fresh-abs) g }
+  pub fresh-well : WellFormed (freshBytes z s)
+  fresh-well = record { rep = fresh-rep; good = subst Good (sym fresh-abs) (good-fresh z h) }
+
+-- What `make` made: a well-formed state that holds a fresh machine of these sizes.
+pub record Made (p r q k c hz : ℕ) (s : List ℕ) : Type 0 where
+  pub wellFormed : WellFormed s
+  pub machine : abs s ≡ fresh (sizesFor p r q k c hz)
+
+pub make-made : (p r q k c hz : ℕ) (s : List ℕ) → makeAnswer p r q k c hz s ≡ 0 → Made p r q k c hz (makeBytes p r q k c hz s)
+unfolding makeAnswer makeBytes
+make-made p r q k c hz s = go (sizesFit p r q k c hz) (ltb (length s) (totalFor (sizesFor p r q k c hz))) refl
+  where
+    z : Sizes
+    z = sizesFor p r q k c hz
+
+    go
+        : (fit short : Bool)
+        → sizesFit p r q k c hz ≡ fit
+        → _≡_ {A = ℕ} (if not fit then 2 else if short then 1 else 0) 0
+        → Made p r q k c hz (if not fit then s else if short then s else freshBytes z s)
+    go false short e a = absurd (omega (arith, a))
+    go true true e a = absurd (omega (arith, a))
+    go true false e a = let h : SizesInRange z = sizes-fit p r q k c hz e in record { wellFormed = fresh-well z h s; machine = fresh-abs z h s }

@@ -1,0 +1,20 @@
+-- The laws, in the order in which to read them.
+pub mod Lists
+pub mod Fine
+pub mod Fresh
+pub mod SpotsLaws
+pub mod KinLaws
+pub mod ClockLaws
+pub mod FineLaws
+pub mod Moves
+pub mod Allowed
+pub mod Simple
+pub mod Sleeping
+pub mod Sched
+pub mod Making
+pub mod Messages
+pub mod Exiting
+pub mod Firings
+pub mod Kept
+pub mod Refused
+pub mod Never
