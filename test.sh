@@ -1,14 +1,22 @@
 #!/usr/bin/env bash
 # test.sh: everything that must hold, in order, ending at the first fault. Its last line is that of `rt ci`: 'N passed, 0 failed'.
 #   1. the files are in the formatter's layout;
-#   2. on each fixed list in lists/ the definition computes the kept listing;
-#   3. where the Rust is at hand (the folder R9_SRC, by default ../shared/docs/src/port/src): the kept listings are what the Rust
-#      gives today, and so it is on lists that are not kept, made here;
+#   2. on each fixed list in lists/ the definition computes the kept listing, and every answer and number arises in one of them;
+#   3. where the Rust is at hand (the folder R9_SRC, from the repository's top, by default ../shared/docs/src/port/src): the kept
+#      listings are what the Rust gives today, they hold every step with each number that it can meet, and the definition and the
+#      Rust give the same on lists that are not kept, made here;
 #   4. every crate is proved from nothing, every must-fail edit is refused, and every program writes what it must (`rt ci`).
-set -eu
+set -euo pipefail
 cd "$(dirname "$0")"
 fail() { echo "test.sh: $*" >&2; exit 1; }
+
+rust=${R9_SRC:-../shared/docs/src/port/src}
 command -v rt >/dev/null 2>&1 || fail "the toolchain's command rt is not installed"
+if [ -d "$rust" ]; then
+  command -v cargo >/dev/null 2>&1 || fail "the Rust is at hand and cargo is not installed"
+  R9_SRC=$(cd "$rust" && pwd) || fail "cannot enter the folder $rust"
+  export R9_SRC
+fi
 
 rt fmt --check
 
@@ -21,14 +29,15 @@ for steps in lists/*.steps; do
   pairs+=("$steps" "lists/$name.listing")
 done
 definition/check.sh "${pairs[@]}"
+definition/arose.sh lists/*.listing
 
-if [ -d "${R9_SRC:-../shared/docs/src/port/src}" ]; then
-  command -v cargo >/dev/null 2>&1 || fail "the Rust is at hand and cargo is not installed"
-  (cd oracle && cargo build --quiet --release --offline)
+if [ -d "$rust" ]; then
+  (cd oracle && cargo build --quiet --release --offline) || fail "the oracle does not build"
   lists/compare.sh
+  lists/coverage.sh -q
   definition/differ.sh 100 70 1
 else
-  echo "test.sh: no folder ${R9_SRC:-../shared/docs/src/port/src}: the runs against the Rust are left out, the fixed lists stand in"
+  echo "test.sh: no folder $rust: the runs against the Rust are left out, the fixed lists stand in"
 fi
 
 rt ci

@@ -5,7 +5,7 @@
 # proof checker computes the definition (`listing`, or `listingAt`, of crates/machine/specs/Listing.antt) on the bytes of STEPS
 # and compares what it gives with the bytes of LISTING. The comparison is a theorem, proved by computation alone, in a crate of
 # its own in a temporary folder. Says in one line how many listings were so proved; names each one that was not, and fails.
-set -eu
+set -euo pipefail
 top=$(cd "$(dirname "$0")/.." && pwd)
 
 fail() { echo "definition/check.sh: $*" >&2; exit 1; }
@@ -26,7 +26,10 @@ echo "// Listings, each proved to be what the definition says." >"$work/crates/l
 specs=$work/crates/listings/specs
 
 # the bytes of a file as a list of numbers
-list() { od -An -v -w1 -tu1 "$1" | awk '{ printf "%s ∷ ", $1 } END { printf "[]" }'; }
+list() { od -An -v -w1 -tu1 -- "$1" 2>/dev/null | awk '{ printf "%s ∷ ", $1 } END { printf "[]" }'; }
+
+# whether the first is a number from 1 to the second, in digits alone
+upto() { [[ $1 =~ ^[1-9][0-9]{0,9}$ ]] && (($1 <= $2)); }
 
 # a module's lines before its theorems
 begin_module() {
@@ -48,29 +51,30 @@ while [ $# -gt 0 ]; do
     [ $# -ge 2 ] || fail "-s wants P,R,Q,K,C,HZ"
     sizes=$2
     shift 2
-    [[ "$sizes" =~ ^[0-9]+,[0-9]+,[0-9]+,[0-9]+,[0-9]+,[0-9]+$ ]] || fail "$sizes is not P,R,Q,K,C,HZ"
+    IFS=, read -r p r q k c hz <<<"$sizes"
+    upto "$p" 4096 && upto "$r" 4096 && upto "$q" 4096 && upto "$k" 4096 && upto "$c" 65000 && upto "$hz" 4294967295 ||
+      fail "'$sizes' is not P,R,Q,K,C,HZ: P, R, Q, K from 1 to 4096, C from 1 to 65000, HZ from 1 to 4294967295"
   fi
   [ $# -ge 2 ] || fail "a list of steps without its listing: ${1:-}"
   [ -f "$1" ] || fail "no such file: $1"
   [ -f "$2" ] || fail "no such file: $2"
+  input=$(list "$1") || fail "cannot read $1"
+  output=$(list "$2") || fail "cannot read $2"
   module=M$((count / 20))
   [ $((count % 20)) -ne 0 ] || begin_module "$module"
   if [ -z "$sizes" ]; then
     says="listing" opens="listing"
   else
-    IFS=, read -r p r q k c hz <<<"$sizes"
     says="listingAt (record { processes = $p; rendez = $r; locks = $q; timers = $k; cells = $c; hz = $hz })" opens="listingAt"
   fi
   {
-    printf '\ninput-%s : List ℕ\ninput-%s = ' "$count" "$count"
-    list "$1"
-    printf '\n\noutput-%s : List ℕ\noutput-%s = ' "$count" "$count"
-    list "$2"
-    printf '\n\nlist-%s : %s input-%s ≡ output-%s\nunfolding %s input-%s output-%s\nlist-%s = refl\n' \
+    printf '\ninput-%s : List ℕ\ninput-%s = %s\n' "$count" "$count" "$input"
+    printf '\noutput-%s : List ℕ\noutput-%s = %s\n' "$count" "$count" "$output"
+    printf '\nlist-%s : %s input-%s ≡ output-%s\nunfolding %s input-%s output-%s\nlist-%s = refl\n' \
       "$count" "$says" "$count" "$count" "$opens" "$count" "$count" "$count"
   } >>"$specs/$module.antt"
   names+=("$1")
-  steps=$((steps + $(grep -c '' "$1" || true)))
+  steps=$((steps + $(grep -ac '' -- "$1" || true)))
   count=$((count + 1))
   shift 2
 done
@@ -79,8 +83,8 @@ if (cd "$work" && RT_CUT=0 rt check listings) >"$work/out" 2>&1; then
   echo "definition: $count lists, $steps steps: each listing is what the definition computes"
   exit 0
 fi
-wrong=$(grep -o 'error: `list-[0-9]*`' "$work/out" | grep -o '[0-9]*' | sort -nu)
-[ -n "$wrong" ] || { tail -n 20 "$work/out" >&2; fail "the check of the definition itself failed"; }
+wrong=$(grep -o 'error: `list-[0-9]*`' "$work/out" | grep -o '[0-9]*' | sort -nu) || true
+[ -n "$wrong" ] || fail "the definition itself is not accepted (rt check machine says more): $(grep -m1 error "$work/out" || true)"
 for i in $wrong; do
   echo "definition: the listing of ${names[$i]} is not what the definition computes" >&2
 done

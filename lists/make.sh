@@ -1,4 +1,4 @@
-#!/bin/bash
+#!/usr/bin/env bash
 # Remakes the generated lists from their seeds (seeds.txt), and every listing
 # with the oracle.  Sizes other than the default stand in sizes.txt.
 set -euo pipefail
@@ -6,9 +6,9 @@ cd "$(dirname "$0")"
 export LC_ALL=C
 oracle=../oracle/target/release/oracle
 
-fail() { echo "make.sh: $1" >&2; exit 1; }
+fail() { echo "lists/make.sh: $1" >&2; exit 1; }
 
-[ -x "$oracle" ] || fail "no $oracle: run 'cargo build --release --offline' in oracle/ first"
+[ -x "$oracle" ] || fail "the oracle is not built: cargo build --release --offline in oracle/"
 [ -f seeds.txt ] || fail "no seeds.txt"
 [ -f sizes.txt ] || fail "no sizes.txt"
 

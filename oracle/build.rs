@@ -1,5 +1,6 @@
 //! Names the eight unchanged files of r9's port/src as modules, by path.  The
-//! folder is R9_SRC, or the one in the `shared` folder beside the repository.
+//! folder is R9_SRC, or where that is unset or empty the one in the `shared`
+//! folder beside the repository.
 
 use std::path::{Path, PathBuf};
 use std::{env, fs};
@@ -27,7 +28,8 @@ fn name_modules() -> Result<(), String> {
 
 /// The folder of the eight files.  A relative one is relative to this package.
 fn folder() -> Result<PathBuf, String> {
-    let named = env::var_os("R9_SRC").map_or_else(|| PathBuf::from(DEFAULT), PathBuf::from);
+    let given = env::var_os("R9_SRC").filter(|folder| !folder.is_empty());
+    let named = given.map_or_else(|| PathBuf::from(DEFAULT), PathBuf::from);
     named
         .canonicalize()
         .map_err(|e| format!("no folder {} with r9's port/src (set R9_SRC): {e}", named.display()))

@@ -20,6 +20,9 @@ use std::cell::{Cell, RefCell, UnsafeCell};
 use std::ptr;
 use std::sync::atomic::AtomicUsize;
 
+#[cfg(not(all(target_arch = "x86_64", unix)))]
+compile_error!("the oracle's context switch is for x86_64 on Unix only");
+
 pub struct Host;
 
 /// A static of the oracle's only thread.
@@ -348,7 +351,6 @@ impl ProcArch for Host {
 ///
 /// `save` is valid for writes, and `next` was saved here or made by
 /// new_context, on a stack that is alive.
-#[cfg(target_arch = "x86_64")]
 #[unsafe(naked)]
 unsafe extern "C" fn switch(save: *mut Label, next: *const Label) {
     core::arch::naked_asm!(

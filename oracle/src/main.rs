@@ -68,7 +68,7 @@ fn fail(status: i32, why: &str) -> ! {
 }
 
 fn read_sizes(text: &str) -> Sizes {
-    Sizes::read(text).unwrap_or_else(|| fail(2, &format!("no sizes of a state: {text}")))
+    Sizes::read(text).unwrap_or_else(|| fail(2, &format!("not P,R,Q,K,C,HZ in range: {text}")))
 }
 
 /// Write the listing of the list on standard input.
@@ -85,7 +85,9 @@ fn run(sizes: Sizes) {
 
 /// Write a list of `count` steps from `seed`.
 fn generate(sizes: Sizes, seed: &str, count: &str) {
-    let (Ok(seed), Ok(count)) = (seed.parse(), count.parse()) else { fail(2, USAGE) };
+    let (Some(seed), Some(count)) = (parse::digits(seed), parse::digits(count)) else {
+        fail(2, USAGE)
+    };
     if let Err(why) = generate::list(sizes, seed, count, &mut io::stdout().lock()) {
         fail(3, &why);
     }

@@ -129,6 +129,11 @@ fn kernel_timer(n: u64, sizes: &Sizes) -> Option<usize> {
     below(n, sizes.timers).filter(|&t| t > 0)
 }
 
+/// A number of 64 bits in an argument, in digits alone: no sign.
+pub fn digits(text: &str) -> Option<u64> {
+    number(text.as_bytes())
+}
+
 fn duration(s: u64, n: u64) -> Option<Duration> {
     (n < 1_000_000_000).then(|| Duration::new(s, n as u32))
 }

@@ -1,5 +1,7 @@
 //! The sizes of a state.
 
+use crate::parse;
+
 /// The number of conditions of every state.
 pub const CONDITIONS: usize = 256;
 
@@ -19,7 +21,7 @@ impl Sizes {
 
     /// Sizes written as P,R,Q,K,C,HZ, or None where they are out of range.
     pub fn read(text: &str) -> Option<Sizes> {
-        let numbers: Vec<u64> = text.split(',').map(|n| n.parse().ok()).collect::<Option<_>>()?;
+        let numbers: Vec<u64> = text.split(',').map(parse::digits).collect::<Option<_>>()?;
         let &[p, r, q, k, c, hz] = numbers.as_slice() else {
             return None;
         };

@@ -1,6 +1,6 @@
 -- Stores in a table with a maximum for each field: what they make of the bytes and the memory, and that they keep the ranges.
 use mathlib.Core.Path.{_≡_, refl, ap, _∙_}
-use mathlib.Core.List.{List, [], _∷_}
+use mathlib.Core.List.{List, [], _∷_, _++_}
 use Prim.Native.Nat.{ℕ, _^_, _≤_, _<_}
 use native.Mathlib.Omega.{arith}
 use lib.Dec.{T}
@@ -67,3 +67,8 @@ module _ {l : Layout} {most : ℕ → ℕ} (ok : Ranges l most) where
   pub state-writes : {ns s : List ℕ} → State l most ns s → (ws : List Write) → Writable l most ns ws → State l most ns (writes l ns s ws)
   state-writes t [] h = t
   state-writes t (w ∷ ws) h = state-writes (state-store t (w .field) (w .index) (w .value) (h .0) (h .1)) ws (h .2)
+
+-- Stores after stores.
+pub writes-join : (l : Layout) (ns s : List ℕ) (ws ws′ : List Write) → writes l ns s (ws ++ ws′) ≡ writes l ns (writes l ns s ws) ws′
+writes-join l ns s [] ws′ = refl
+writes-join l ns s (w ∷ ws) ws′ = writes-join l ns (store l ns s (w .field) (w .index) (w .value)) ws ws′

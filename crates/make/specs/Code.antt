@@ -10,12 +10,10 @@ use native.Mathlib.Nat.{not-suc-le-zero, le-of-suc-le-suc}
 use lib.ListN.{length, drop, set, replicate, length-set}
 use Rattle.machine.specs.Good.{SizesInRange}
 use Rattle.clock.specs.Counts.{countsOf}
-use Rattle.layout.specs.Table.{Slot, slot}
-use Rattle.layout.specs.Memory.{write}
-use Rattle.layout.specs.Writes.{Write, writes}
+use Rattle.layout.specs.Table.{slot}
+use Rattle.layout.specs.Writes.{writes}
 use Rattle.state.specs.Fields.{layout1, counts}
-use Rattle.state.specs.Places.{sizesIn, totalIn, PutIn}
-use Rattle.state.specs.WellFormed.{markValue}
+use Rattle.state.specs.Places.{sizesIn, totalIn, PutIn, Wrote, wrote-3}
 use Rattle.make.specs.Fresh.{between, countsFit, marksOf, sizeStores, restStores, freshStores, zeroed, freshBytes}
 use Rattle.state.specs.declared.Sizes.{Sizes}
 
@@ -26,14 +24,10 @@ clear-step zero (x ∷ s) h = refl
 clear-step (suc i) [] h = absurd (not-suc-le-zero h)
 clear-step (suc i) (x ∷ s) h = ap (λ (l : List ℕ). 0 ∷ l) (clear-step i s (le-of-suc-le-suc h))
 
--- what a run of stores asks, and what it ensures
+-- what a run of stores asks
 pub record MakeAsks (z : Sizes) (s : List ℕ) : Type 0 where
   pub sizes : SizesInRange (sizesIn z)
   pub long : totalIn z ≤ length s
-
-pub record Wrote (z : Sizes) (s s′ : List ℕ) (ws : List Write) : Type 0 where
-  pub bytes : s′ ≡ writes layout1 (counts (sizesIn z)) s ws
-  pub asks : MakeAsks z s′
 
 -- `clear` as it goes: the first i bytes are 0
 pub record Clearing (s₀ : List ℕ) (n : ℕ) (s : List ℕ) (i : ℕ) : Type 0 where
@@ -57,55 +51,15 @@ clear-more {s₀} {s} {s′} {n} {i} {j} c l e d =
 pub clear-end : {s₀ s : List ℕ} {n i : ℕ} → Clearing s₀ n s i → n ≤ i → s ≡ replicate n 0 ++ drop n s₀
 clear-end {s₀} {s} {n} {i} c l = let e : i ≡ n = omega (arith, c .within) in rw (← e) (c .bytes)
 
--- one store more
-wrote-more
-    : (z : Sizes) {s₁ s₂ : List ℕ} {a : Slot} {i v : ℕ} (t : List ℕ)
-    → s₁ ≡ t
-    → PutIn z s₁ s₂ a i v
-    → s₂ ≡ write layout1 (counts (sizesIn z)) t a i v
-wrote-more z {s₁} {s₂} {a} {i} {v} t e p = p .bytes ∙ ap (λ (x : List ℕ). write layout1 (counts (sizesIn z)) x a i v) e
-
--- the runs of stores, in the code's shape
-pub marks-written
-    : {z : Sizes} {s s₁ s₂ s₃ : List ℕ}
-    → MakeAsks z s
-    → PutIn z s s₁ (slot 0 0 8) 0 markValue
-    → PutIn z s₁ s₂ (slot 0 8 4) 0 1
-    → PutIn z s₂ s₃ (slot 0 12 4) 0 (z .hz)
-    → Wrote z s s₃ (marksOf (sizesIn z))
-marks-written {z} {s} m p₁ p₂ p₃ =
-    record {
-      bytes = wrote-more z _ (wrote-more z _ (p₁ .bytes) p₂) p₃;
-      asks = record { sizes = m .sizes; long = p₃ .long };
-    }
-
-pub sizes-written
-    : {z : Sizes} {s s₁ s₂ s₃ s₄ : List ℕ}
-    → MakeAsks z s
-    → PutIn z s s₁ (slot 0 16 2) 0 (z .processes)
-    → PutIn z s₁ s₂ (slot 0 18 2) 0 (z .rendez)
-    → PutIn z s₂ s₃ (slot 0 20 2) 0 (z .locks)
-    → PutIn z s₃ s₄ (slot 0 22 2) 0 (z .timers)
-    → Wrote z s s₄ (sizeStores (sizesIn z))
-sizes-written {z} m p₁ p₂ p₃ p₄ =
-    record {
-      bytes = wrote-more z _ (wrote-more z _ (wrote-more z _ (p₁ .bytes) p₂) p₃) p₄;
-      asks = record { sizes = m .sizes; long = p₄ .long };
-    }
-
+-- the last run of stores, with the period that `to_counts` gave
 pub rest-written
     : {z : Sizes} {s s₁ s₂ s₃ : List ℕ} {period : ℕ}
-    → MakeAsks z s
     → period ≡ countsOf (z .hz) 0 10000000
     → PutIn z s s₁ (slot 0 24 2) 0 (z .cells)
     → PutIn z s₁ s₂ (slot 0 40 8) 0 1
     → PutIn z s₂ s₃ (slot 5 8 8) 0 period
     → Wrote z s s₃ (restStores (sizesIn z))
-rest-written {z} {s} {s₁} {s₂} {s₃} {period} m e p₁ p₂ p₃ =
-    record {
-      bytes = wrote-more z _ (wrote-more z _ (p₁ .bytes) p₂) (subst (λ (v : ℕ). PutIn z s₂ s₃ (slot 5 8 8) 0 v) e p₃);
-      asks = record { sizes = m .sizes; long = p₃ .long };
-    }
+rest-written {z} {s} {s₁} {s₂} {s₃} e p₁ p₂ p₃ = wrote-3 p₁ p₂ (subst (λ (v : ℕ). PutIn z s₂ s₃ (slot 5 8 8) 0 v) e p₃)
 
 pub filled
     : {z : Sizes} {s s₁ s₂ s₃ s₄ : List ℕ} {n : ℕ}

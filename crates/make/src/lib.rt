@@ -6,8 +6,8 @@ ghost use Prim.Native.Nat.{_+_, _<_, _≤_};
 ghost use mathlib.Core.List.{_++_};
 ghost use lib.ListN.{length, drop, replicate};
 ghost use Rattle.make.specs.Fresh.{sizesFor, freshBytes, marksOf, sizeStores, restStores};
-ghost use Rattle.make.specs.Code.{Wrote, MakeAsks, Within, CountsFit};
-ghost use Rattle.state.specs.Places.{sizesIn, totalIn};
+ghost use Rattle.make.specs.Code.{MakeAsks, Within, CountsFit};
+ghost use Rattle.state.specs.Places.{sizesIn, totalIn, Wrote};
 ghost use Rattle.machine.specs.Good.{SizesInRange};
 ghost use Rattle.make.specs.Answers.{SizesAre, Sized, MakeAnswers};
 

@@ -1,6 +1,6 @@
 // The lent state: where its fields lie, and how they are read and written.
 ghost use mathlib.Core.Path.{_≡_};
-ghost use Prim.Native.Nat.{_+_, _<_, _≤_};
+ghost use Prim.Native.Nat.{_+_, _*_, _<_, _≤_};
 ghost use Rattle.layout.specs.Table.{slot, stride};
 ghost use Rattle.state.specs.Fields.{layout1};
 ghost use Rattle.state.specs.Places.{startIn, placeIn, totalIn, cellIn, ReachIn, PutIn};
@@ -292,4 +292,18 @@ pub fn total(z: Sizes) -> usize
     ensures { λ r. ⌜ (r ≡ totalIn z) × (r < 33554432) ⌝ }
 {
     start_of(z, 12)
+}
+
+// Where the name of record `i` begins.
+pub fn name_at(z: Sizes, i: Index) -> usize
+    ensures { λ r. ⌜ (r ≡ startIn z 2 + i * 28) × (r < 67108864) ⌝ }
+{
+    start_of(z, NAME) + i as usize * 28
+}
+
+// Where the message of cell `c` begins.
+pub fn message_at(z: Sizes, c: Index) -> usize
+    ensures { λ r. ⌜ (r ≡ startIn z 7 + c * 127) × (r < 67108864) ⌝ }
+{
+    start_of(z, MESSAGE) + c as usize * 127
 }

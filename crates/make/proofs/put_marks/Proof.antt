@@ -1,6 +1,6 @@
 -- `make::put_marks` meets its contract: it writes the mark, the layout's number and the frequency.
 use borrow.Author.Needs.{needs}
-use Rattle.make.specs.Code.{marks-written}
+use Rattle.state.specs.Places.{wrote-3}
 use Rattle.make.proofs.put_marks.Statement.{statement}
 use Rattle.make.proofs.put_marks.Tie as tie
 
@@ -17,7 +17,7 @@ same-length : tie.Need-same-length
 same-length c = search needs
 
 returns : tie.Need-returns
-returns c = search marks-written
+returns c = search wrote-3
 
 pub put-marks-spec : {M : Type 1} → statement M
 put-marks-spec =

@@ -1,6 +1,6 @@
 -- `make::put_sizes` meets its contract: it writes four of the sizes.
 use borrow.Author.Needs.{needs}
-use Rattle.make.specs.Code.{sizes-written}
+use Rattle.state.specs.Places.{wrote-4}
 use Rattle.make.proofs.put_sizes.Statement.{statement}
 use Rattle.make.proofs.put_sizes.Tie as tie
 
@@ -20,7 +20,7 @@ same-length : tie.Need-same-length
 same-length c = search needs
 
 returns : tie.Need-returns
-returns c = search sizes-written
+returns c = search wrote-4
 
 pub put-sizes-spec : {M : Type 1} → statement M
 put-sizes-spec =

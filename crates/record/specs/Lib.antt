@@ -1,0 +1,4 @@
+-- A process record, by value.
+pub mod Resumes
+pub mod Loads
+pub mod Stores
