@@ -1,0 +1,42 @@
+-- `bounds::links_within` meets its contract, by each way out.
+use Rattle.bounds.specs.Groups.{four-1, four-2, four-3, four-all}
+use borrow.Author.Needs.{needs}
+use Rattle.bounds.proofs.links_within.Statement.{statement}
+use Rattle.bounds.proofs.links_within.Tie as tie
+
+halves-within-requires : tie.Need-halves-within-requires
+halves-within-requires c κs = search needs
+
+returns : tie.Need-returns
+returns c = search four-1
+
+halves-within-requires-2 : tie.Need-halves-within-requires-2
+halves-within-requires-2 c κs = search needs
+
+returns-2 : tie.Need-returns-2
+returns-2 c = search four-2
+
+halves-within-requires-3 : tie.Need-halves-within-requires-3
+halves-within-requires-3 c κs = search needs
+
+returns-3 : tie.Need-returns-3
+returns-3 c = search four-3
+
+halves-within-requires-4 : tie.Need-halves-within-requires-4
+halves-within-requires-4 c κs = search needs
+
+returns-4 : tie.Need-returns-4
+returns-4 c = search four-all
+
+pub links-within-spec : {M : Type 1} → statement M
+links-within-spec =
+    tie.close
+    (tie.spec
+    halves-within-requires
+    returns
+    halves-within-requires-2
+    returns-2
+    halves-within-requires-3
+    returns-3
+    halves-within-requires-4
+    returns-4)

@@ -1,0 +1,1 @@
+// No code: the facts that the check decides are exactly well-formedness.

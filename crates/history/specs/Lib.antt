@@ -1,0 +1,31 @@
+-- Demand 3 over a list of steps, in the order in which to read it: the definitions and the statement; every step is a change of
+-- what demand 3 looks at; what every change keeps; the run queue; the places; the ticks; the theorem.
+pub mod History
+pub mod Demand3
+pub mod Lists
+pub mod View
+pub mod Sound
+pub mod Facts
+pub mod Waking
+pub mod Changes
+pub mod Sched
+pub mod Sleeping
+pub mod Gives
+pub mod Single
+pub mod Sums
+pub mod OneKept
+pub mod Queue
+pub mod Agrees
+pub mod Woken
+pub mod Ticks
+pub mod Kept
+pub mod Fresh
+pub mod OfGood
+pub mod Turns
+pub mod Reads
+pub mod Follows
+pub mod Placed
+pub mod Entering
+pub mod Bound
+pub mod Proof
+pub mod Tight

@@ -1,0 +1,1 @@
+// What a list of steps does: demand 3 (specifications only).

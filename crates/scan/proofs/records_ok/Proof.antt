@@ -1,0 +1,51 @@
+-- `scan::records_ok` meets its contract: the records below i are right.
+use borrow.Author.Needs.{needs}
+use native.Mathlib.Omega.{arith}
+use Prim.Native.Nat.{_-_}
+use Rattle.state.specs.Places.{sizesIn}
+use Rattle.rules.specs.Code.{memIn}
+use Rattle.rules.specs.Facts.{RecordOk}
+use Rattle.scan.specs.Asks.{Passing, pass-start, pass-more, pass-end, passed, failed}
+use Rattle.scan.proofs.records_ok.Statement.{statement}
+use Rattle.scan.proofs.records_ok.Tie as tie
+
+abbrev Inv-loop : tie.InvT-loop
+Inv-loop s z n i₀ i = Passing (λ j. RecordOk (sizesIn z) (memIn z s) j) i
+
+abbrev μ-loop : tie.MeasureT-loop
+μ-loop s z n i₀ i = n - i
+
+loop-holds : tie.Need-loop-holds Inv-loop μ-loop
+loop-holds c = search pass-start
+
+record-ok-requires : tie.Need-record-ok-requires Inv-loop μ-loop
+record-ok-requires c κs = search needs
+
+returns : tie.Need-returns Inv-loop μ-loop
+returns c = λ h. failed (c .before .record-ok .result) (c .before .record-ok .ensures) (c .if1 .taken) (h _ (omega arith))
+
+add-i : tie.Need-add-i Inv-loop μ-loop
+add-i c = search needs
+
+loop-less : tie.Need-loop-less Inv-loop μ-loop
+loop-less c = search needs
+
+loop-again : tie.Need-loop-again Inv-loop μ-loop
+loop-again c = pass-more (c .before .before .before .loop .inv) (passed (c .before .record-ok .result) (c .before .record-ok .ensures) (c .if1 .left))
+
+returns-2 : tie.Need-returns-2 Inv-loop μ-loop
+returns-2 c = pass-end (c .before .loop .inv) (c .loop-test .left)
+
+pub records-ok-spec : {M : Type 1} → statement M
+records-ok-spec =
+    tie.close
+    (tie.spec
+    Inv-loop
+    μ-loop
+    loop-holds
+    record-ok-requires
+    returns
+    add-i
+    loop-less
+    loop-again
+    returns-2)

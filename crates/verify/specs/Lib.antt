@@ -1,0 +1,2 @@
+-- The whole check: every way out decides whether the bytes are well formed.
+pub mod Ways

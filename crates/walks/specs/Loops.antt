@@ -1,0 +1,92 @@
+-- Loops over all numbers below a bound: counting, summing, and a fact of each.
+use mathlib.Core.Path.{_≡_, refl, subst, _∙_}
+use mathlib.Core.Bool.{Bool, true, false, false≢true}
+use Prim.Native.Nat.{ℕ, _+_, _≤_, _<_}
+use native.Mathlib.Numerals.{add-one}
+use native.Mathlib.Omega.{arith}
+use borrow.Author.Count.{below-more}
+use Rattle.machine.specs.Basics.{if_then_else_}
+use Rattle.rules.specs.Facts.{countBelow}
+use Rattle.rules.specs.Code.{Decides}
+
+-- 1 where a test holds, and 0 where not.
+abbrev pub one : Bool → ℕ
+one b = if b then 1 else 0
+
+pub record Ones (b : Bool) (d : ℕ) : Type 0 where
+  pub is : d ≡ one b
+  pub small : d ≤ 1
+
+-- What a test shows that decides a statement.
+pub yes-of : (b : Bool) (P : Type 0) → b ≡ true → Decides b P → P
+yes-of b P e d = subst (λ (x : Bool). Decides x P) e d
+
+pub no-of : (b : Bool) (P : Type 0) → b ≡ false → Decides b P → P → ⊥
+no-of b P e d = subst (λ (x : Bool). Decides x P) e d
+
+-- What a function answers that decides P and counts n things where P holds.
+pub record Counts (P : Type 0) (n : ℕ) (ok : Bool) (count : ℕ) : Type 0 where
+  pub decides : Decides ok P
+  pub counted : ok ≡ true → count ≡ n
+
+pub counts-no : {P : Type 0} {n : ℕ} → (P → ⊥) → Counts P n false 0
+counts-no f = record { decides = f; counted = λ e. absurd (false≢true e) }
+
+pub counts-yes : {P : Type 0} {n k : ℕ} → P → k ≡ n → Counts P n true k
+counts-yes p e = record { decides = p; counted = λ _. e }
+
+-- The numbers below i were counted, n of them pass; e is where the loop ends.
+pub record Counting (e : ℕ) (test : ℕ → Bool) (f : ℕ → ℕ) (i n : ℕ) : Type 0 where
+  pub within : i ≤ e
+  pub count : n ≡ countBelow i (λ k. test (f k))
+  pub few : n ≤ i
+
+pub count-start : {e : ℕ} {test : ℕ → Bool} {f : ℕ → ℕ} → Counting e test f 0 0
+unfolding countBelow
+count-start = record { within = omega arith; count = refl; few = omega arith }
+
+pub count-more
+    : {e : ℕ} {test : ℕ → Bool} {f : ℕ → ℕ} {i n v d i′ n′ : ℕ}
+    → Counting e test f i n
+    → i < e
+    → v ≡ f i
+    → Ones (test v) d
+    → n′ ≡ n + d
+    → i′ ≡ i + 1
+    → Counting e test f i′ n′
+unfolding countBelow
+count-more {e} {test} {f} {i} {n} {v} {d} {i′} {n′} c l p q r t =
+    let g : d ≡ one (test (f i)) = rw p at (q .is) in
+    record {
+      within = omega arith;
+      count = rw (t, add-one) (r ∙ rw (g, c .count) refl);
+      few = omega (arith, q .small, c .few);
+    }
+
+pub count-end : {e : ℕ} {test : ℕ → Bool} {f : ℕ → ℕ} {i n : ℕ} → Counting e test f i n → e ≤ i → n ≡ countBelow e (λ k. test (f k))
+count-end {e} {test} {f} {i} {n} c l = let q : i ≡ e = omega (arith, c .within) in rw (← q) (c .count)
+
+-- Every number below i meets P.
+pub record AllBelow (P : ℕ → Type 0) (e i : ℕ) : Type 0 where
+  pub within : i ≤ e
+  pub all : (k : ℕ) → k < i → P k
+
+pub all-start : {P : ℕ → Type 0} {e : ℕ} → AllBelow P e 0
+all-start = record { within = omega arith; all = λ k l. absurd (omega arith) }
+
+pub all-more
+    : {P : ℕ → Type 0} {e i i′ : ℕ} {b : Bool}
+    → AllBelow P e i
+    → i < e
+    → b ≡ true
+    → Decides b (P i)
+    → i′ ≡ i + 1
+    → AllBelow P e i′
+all-more {P} {e} {i} {i′} {b} a l t d q =
+    record { within = omega arith; all = rw q (below-more _ i (a .all) (yes-of b (P i) t d)) }
+
+pub all-yes : {P : ℕ → Type 0} {e i : ℕ} → AllBelow P e i → e ≤ i → (k : ℕ) → k < e → P k
+all-yes a l k h = a .all k (omega arith)
+
+pub all-no : {P : ℕ → Type 0} {e i : ℕ} {b : Bool} → AllBelow P e i → i < e → b ≡ false → Decides b (P i) → ((k : ℕ) → k < e → P k) → ⊥
+all-no {P} {e} {i} {b} a l t d h = no-of b (P i) t d (h i l)
