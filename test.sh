@@ -5,7 +5,8 @@
 #   3. where the Rust is at hand (the folder R9_SRC, from the repository's top, by default ../shared/docs/src/port/src): the kept
 #      listings are what the Rust gives today, they hold every step with each number that it can meet, and the definition and the
 #      Rust give the same on lists that are not kept, made here;
-#   4. every crate is proved from nothing, every must-fail edit is refused, and every program writes what it must (`rt ci`).
+#   4. where cargo is installed: `size`, `make` and `check`, as C callers have them, on many states against an independent reading;
+#   5. every crate is proved from nothing, every must-fail edit is refused, and every program writes what it must (`rt ci`).
 set -euo pipefail
 cd "$(dirname "$0")"
 fail() { echo "test.sh: $*" >&2; exit 1; }
@@ -18,6 +19,7 @@ if [ -d "$rust" ]; then
   export R9_SRC
 fi
 
+mkdir -p target
 rt fmt --check
 
 pairs=()
@@ -38,6 +40,17 @@ if [ -d "$rust" ]; then
   definition/differ.sh 100 70 1
 else
   echo "test.sh: no folder $rust: the runs against the Rust are left out, the fixed lists stand in"
+fi
+
+# the libraries for C callers, and the program in outside/ that tries them
+if command -v cargo >/dev/null 2>&1; then
+  for crate in make verify; do
+    rt staticlib "$crate" >target/staticlib.out 2>&1 || { tail -n 20 target/staticlib.out >&2; fail "no static library of $crate"; }
+  done
+  (cd outside && cargo build --quiet --release --offline) || fail "the outside test does not build"
+  outside/target/release/outside
+else
+  echo "test.sh: cargo is not installed: the outside test of size, make and check is left out"
 fi
 
 rt ci

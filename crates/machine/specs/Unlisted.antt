@@ -7,13 +7,14 @@ use mathlib.Core.Option.{Option, none, some}
 use Prim.Native.Nat.{ℕ, _-_, _^_}
 use lib.ListN.{replicate}
 use Rattle.machine.specs.Basics.{ascii}
-use Rattle.machine.specs.Machine.{Machine, Sizes, Exit, inWait, fresh, process}
+use Rattle.machine.specs.Machine.{Machine, Sizes, Exit, inWait, fresh, process, asleep}
 use Rattle.machine.specs.Update.{withNextPid, withProcess, withResume}
-use Rattle.machine.specs.Step.{Step, Body, start, rfork, name, sched, yield, sleep, tsleep, wakeup, qlock, qunlock, cond, clock, tadd, intr, exit, wait}
+use Rattle.machine.specs.Step.{Step, Body, start, rfork, name, sched, yield, sleep, tsleep, wakeup, qlock, qunlock, cond, clock, tadd, intr, due, exit, wait}
 use Rattle.machine.specs.Outcome.{Answer, Reply, Outcome, answer, refused}
 use Rattle.machine.specs.Exits.{cellsUsed}
 use Rattle.machine.specs.StepOf.{stepOf, outcomeOf}
 use Rattle.machine.specs.Listing.{openDefinitions}
+use Rattle.machine.specs.Good.{runningIn, places}
 
 -- What a step did, beside its answer: whom it readied, whom it dispatched, and how often timer 0 fired.
 pub record Deed : Type 0 where
@@ -28,6 +29,9 @@ pub data Example : Type 0 where
   -- after steps on a fresh machine of these sizes: the record numbers of the run queue, and the cells in use
   runQueueIs : Sizes → List Body → List ℕ → Example
   cellsAre : Sizes → List Body → List ℕ → Example
+  -- after such steps: everybody who is in a place, place by place, and how many are asleep
+  placesAre : Sizes → List Body → List ℕ → Example
+  asleepIs : Sizes → List Body → ℕ → Example
   -- what the last of these steps did
   lastDid : Sizes → List Body → Body → Deed → Example
   -- the reply to a step on a machine, with a message buffer of so many bytes
@@ -49,6 +53,8 @@ did o = record { readied = o .readied; dispatched = o .dispatched; fired = o .fi
 abbrev pub Holds : Example → Type 0
 Holds (runQueueIs z bs run) = after (fresh z) bs .run ≡ run
 Holds (cellsAre z bs cells) = cellsUsed (after (fresh z) bs) ≡ cells
+Holds (placesAre z bs is) = places (after (fresh z) bs) ≡ is
+Holds (asleepIs z bs n) = asleep (after (fresh z) bs) ≡ n
 Holds (lastDid z bs b d) = did (stepOf (after (fresh z) bs) (plain b)) ≡ d
 Holds (replyIs m b buffer r) = outcomeOf m (some (plain b)) buffer .reply ≡ r
 
@@ -75,6 +81,14 @@ unlisted =
     ∷ cellsAre small (family ++ yield ∷ sched ∷ exit [] ∷ sched ∷ exit [] ∷ []) (1 ∷ 2 ∷ [])
     -- once the exiting process's own are freed: pid 2 holds cell 2 when it exits, and its own message takes cell 2
     ∷ cellsAre small (start 0 ∷ sched ∷ rfork 16 0 ∷ yield ∷ sched ∷ rfork 16 0 ∷ yield ∷ sched ∷ yield ∷ sched ∷ exit [] ∷ sched ∷ exit [] ∷ []) (2 ∷ [])
+    -- who yields, and who is woken, is in the run queue and nowhere else, and is not asleep
+    ∷ placesAre small (start 0 ∷ sched ∷ yield ∷ []) (3 ∷ [])
+    ∷ placesAre small (start 0 ∷ sched ∷ sleep 0 0 ∷ wakeup 0 ∷ []) (3 ∷ [])
+    ∷ asleepIs small (start 0 ∷ sched ∷ sleep 0 0 ∷ []) 1
+    ∷ asleepIs small (start 0 ∷ sched ∷ sleep 0 0 ∷ wakeup 0 ∷ []) 0
+    -- a quantum is ten ticks
+    ∷ replyIs (after (fresh small) (start 0 ∷ start 0 ∷ clock 0 ∷ sched ∷ intr 9 ∷ [])) due 127 (answer (Answer.yesNo false))
+    ∷ replyIs (after (fresh small) (start 0 ∷ start 0 ∷ clock 0 ∷ sched ∷ intr 10 ∷ [])) due 127 (answer (Answer.yesNo true))
     -- whom steps ready and dispatch
     ∷ lastDid small [] (start 0) (deed (1 ∷ []) [] 0)
     ∷ lastDid small (start 0 ∷ []) sched (deed [] (1 ∷ []) 0)
@@ -105,5 +119,5 @@ unlisted =
     ∷ []
 
 pub unlisted-hold : AllHold unlisted
-unfolding openDefinitions plain after did small family unlisted
-unlisted-hold = (refl, (refl, (refl, (refl, (refl, (refl, (refl, (refl, (refl, (refl, (refl, (refl, (refl, (refl, (refl, (refl, (refl, (refl, (refl, (refl, (refl, (refl, (refl, (refl, (refl, tt)))))))))))))))))))))))))
+unfolding openDefinitions runningIn places plain after did small family unlisted
+unlisted-hold = (refl, (refl, (refl, (refl, (refl, (refl, (refl, (refl, (refl, (refl, (refl, (refl, (refl, (refl, (refl, (refl, (refl, (refl, (refl, (refl, (refl, (refl, (refl, (refl, (refl, (refl, (refl, (refl, (refl, (refl, (refl, tt)))))))))))))))))))))))))))))))
