@@ -171,7 +171,11 @@ fn put_places(w: &mut Writer, m: &Machine) {
 }
 
 /// A queue of records through `next`, with its head and tail at `ends`.
-fn put_queue<'a>(w: &mut Writer, queue: impl Iterator<Item = &'a usize>, ends: (Field, Field, usize)) {
+fn put_queue<'a>(
+    w: &mut Writer,
+    queue: impl Iterator<Item = &'a usize>,
+    ends: (Field, Field, usize),
+) {
     let queue: Vec<usize> = queue.copied().collect();
     w.set(ends.0, ends.2, link(queue.first().copied()));
     w.set(ends.1, ends.2, link(queue.last().copied()));
@@ -272,7 +276,8 @@ pub fn decode(bytes: &[u8]) -> Option<Machine> {
     m.ready = chain(&k, k.link(RUN_HEAD, 0), NEXT).into();
     m.records = (0..k.z.p).map(|i| decode_process(&k, i)).collect();
     m.sleepers = (0..k.z.r).map(|r| k.link(SLEEPER_OF, r)).collect();
-    m.on_waitr = (0..k.z.p).map(|i| k.get(STATE_OF, i) == 3 && k.get(RESUME_KIND, i) == 4).collect();
+    m.on_waitr =
+        (0..k.z.p).map(|i| k.get(STATE_OF, i) == 3 && k.get(RESUME_KIND, i) == 4).collect();
     m.locks = (0..k.z.q).map(|q| decode_lock(&k, q)).collect();
     m.settings = (0..k.z.k).map(|t| decode_setting(&k, t)).collect();
     let timers = chain(&k, k.link(TIMER_HEAD, 0), TIMER_NEXT);

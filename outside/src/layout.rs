@@ -30,7 +30,8 @@ pub enum Region {
 }
 
 pub const REGIONS: [Region; 12] = [
-    Header, Process, Name, Rendez, Lock, Timer, Cell, Message, Condition, RecordWord, CellWord, FullWord,
+    Header, Process, Name, Rendez, Lock, Timer, Cell, Message, Condition, RecordWord, CellWord,
+    FullWord,
 ];
 
 impl Region {
@@ -263,9 +264,14 @@ pub fn locate(z: Sizes, at: usize) -> String {
     };
     let i = (at - region.begins(z)) / region.bytes_each();
     let within = (at - region.begins(z)) % region.bytes_each();
-    let holds = |f: &&Field| f.region == region && f.offset <= within && within < f.offset + f.width;
+    let holds =
+        |f: &&Field| f.region == region && f.offset <= within && within < f.offset + f.width;
     let name = FIELDS.iter().find(holds).map_or("spare", |f| f.name);
-    if region == Header { format!("header {name}") } else { format!("{} {i} {name}", region.word()) }
+    if region == Header {
+        format!("header {name}")
+    } else {
+        format!("{} {i} {name}", region.word())
+    }
 }
 
 /// Do the tables of the document agree with each other?

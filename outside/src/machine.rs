@@ -118,10 +118,6 @@ impl Machine {
         self.records.iter().position(has)
     }
 
-    pub fn is_queued(&self, timer: usize) -> bool {
-        self.timers.iter().any(|&(t, _)| t == timer)
-    }
-
     /// A new process, last in the run queue.
     pub fn make(&mut self, record: usize, parent: u64, name: [u8; 28]) {
         let pid = self.next_pid;

@@ -64,9 +64,11 @@ pub fn rule_name(i: usize) -> &'static str {
     }
 }
 
-/// Rules that cannot be broken alone: others say the same and more.
+/// Rules that cannot be broken alone.  Who is in no place or in two breaks the
+/// tags, or has a call that fits one place at most; a cell in two queues has
+/// one owner.
 pub fn is_implied(i: usize) -> bool {
-    matches!(rule_name(i), "01: cells in one queue")
+    matches!(rule_name(i), "01: one place" | "01: cells in one queue")
 }
 
 /// Are these bytes a state?
@@ -415,42 +417,44 @@ fn parents(s: &State) -> bool {
     })
 }
 
-/// A word with a bit for each of 64 numbers from 64 × w.
-fn word_of(w: usize, is_one: impl Fn(usize) -> bool) -> u64 {
-    (0..64).fold(0, |word, b| word | u64::from(is_one(64 * w + b)) << b)
+/// Word w of bits: bit b is 1 exactly where 64 w + b is below `n` and such.
+fn word_of(w: usize, n: usize, is_such: impl Fn(usize) -> bool) -> u64 {
+    let numbers = (64 * w..64 * w + 64).take_while(|&number| number < n);
+    numbers.filter(|&number| is_such(number)).fold(0, |word, number| word | 1 << (number % 64))
 }
 
 /// Rule 8: "Bit b of record word w is 1 exactly where 64 w + b is below P and
 /// record P − 1 − (64 w + b) is used."
 fn record_words(s: &State) -> bool {
-    let used = |n: usize| n < s.z.p && s.used(s.z.p - 1 - n);
-    (0..64).all(|w| s.kept.get(USED_RECORDS, w) == word_of(w, used))
+    let used = |n: usize| s.used(s.z.p - 1 - n);
+    (0..64).all(|w| s.kept.get(USED_RECORDS, w) == word_of(w, s.z.p, used))
 }
 
 /// Rule 8: "Bit w of `fullRecords` is 1 exactly where record word w is full."
 fn full_records(s: &State) -> bool {
-    s.kept.header(FULL_RECORDS) == word_of(0, |w| s.kept.get(USED_RECORDS, w) == u64::MAX)
+    let full = |w: usize| s.kept.get(USED_RECORDS, w) == u64::MAX;
+    s.kept.header(FULL_RECORDS) == word_of(0, 64, full)
 }
 
 /// Rule 8: "The cell words are the same for cells, with C for P."  A cell in
 /// use is one that is not free: it hangs in a wait queue.
 fn cell_words(s: &State) -> bool {
     let times = s.times_hung();
-    let used = |n: usize| n < s.z.c && times[s.z.c - 1 - n] != 0;
-    (0..1_016).all(|w| s.kept.get(USED_CELLS, w) == word_of(w, used))
+    let used = |n: usize| times[s.z.c - 1 - n] != 0;
+    (0..1_016).all(|w| s.kept.get(USED_CELLS, w) == word_of(w, s.z.c, used))
 }
 
 /// Rule 8: "Bit b of full word v is 1 exactly where cell word 64 v + b is full."
 fn full_words(s: &State) -> bool {
-    let full = |w: usize| w < 1_016 && s.kept.get(USED_CELLS, w) == u64::MAX;
-    (0..16).all(|v| s.kept.get(FULL_CELL_WORDS, v) == word_of(v, full))
+    let full = |w: usize| s.kept.get(USED_CELLS, w) == u64::MAX;
+    (0..16).all(|v| s.kept.get(FULL_CELL_WORDS, v) == word_of(v, 1_016, full))
 }
 
 /// Rule 8: "and bit v of `fullCells` exactly where full word v is (bits 16 and
 /// above are 0)."
 fn full_cells(s: &State) -> bool {
-    let full = |v: usize| v < 16 && s.kept.get(FULL_CELL_WORDS, v) == u64::MAX;
-    s.kept.header(FULL_CELLS) == word_of(0, full)
+    let full = |v: usize| s.kept.get(FULL_CELL_WORDS, v) == u64::MAX;
+    s.kept.header(FULL_CELLS) == word_of(0, 16, full)
 }
 
 /// 01: "its sizes and fields are in range": a NOW is accepted up to 2^51 − 1.
@@ -521,15 +525,14 @@ fn nchild(s: &State) -> bool {
 /// 01: "each message cell is free or in one living process's wait queue, at
 /// most 128 there".
 fn cells_in_one_queue(s: &State) -> bool {
-    s.times_hung().iter().all(|&times| times <= 1) && s.living().all(|i| s.exits[i].members.len() <= 128)
+    s.times_hung().iter().all(|&times| times <= 1)
+        && s.living().all(|i| s.exits[i].members.len() <= 128)
 }
 
 /// 01: "living pids differ, from 1 to below the next pid".
 fn pids_differ(s: &State) -> bool {
     let next = s.kept.header(NEXT_PID);
-    s.living().all(|i| {
-        s.pids[i] < next && s.living().all(|j| i == j || s.pids[i] != s.pids[j])
-    })
+    s.living().all(|i| s.pids[i] < next && s.living().all(|j| i == j || s.pids[i] != s.pids[j]))
 }
 
 /// 01: "a parent's pid, 0 for none, is below its child's".

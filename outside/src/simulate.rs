@@ -15,15 +15,14 @@ pub struct Wish {
 
 /// Sizes of one of several kinds, and how full.
 pub fn small(rng: &mut Random) -> Wish {
-    let most = rng.of(&[1, 2, 3, 5, 8]);
     let z = Sizes {
-        p: rng.between(1, most),
-        r: rng.between(1, 4),
+        p: rng.of(&[1, 2, 3, 4, 5, 6, 8, 9]),
+        r: rng.between(1, 5),
         q: rng.between(1, 3),
         k: rng.between(1, 4),
-        c: rng.between(1, 9),
+        c: rng.between(1, 12),
     };
-    Wish { z, records: rng.of(&[0, 50, 90, 100, 100]), cells: rng.of(&[0, 60, 100]) }
+    Wish { z, records: rng.of(&[0, 50, 90, 90, 100, 100, 100]), cells: rng.of(&[0, 50, 80, 100]) }
 }
 
 /// Sizes about a word's 64 bits and a wait queue's 128 exits.
@@ -194,23 +193,31 @@ fn time_passes(m: &mut Machine, rng: &mut Random) {
     m.interrupt(m.last_now + step, 50);
 }
 
-/// Half of the ready go somewhere else, so that not all end in the run queue.
+/// Most of the ready go somewhere else, so that not all end in the run queue;
+/// then mostly one runs.
 fn settle(m: &mut Machine, rng: &mut Random) {
     for _ in 0..m.ready.len() {
         m.dispatch(false);
         let (r, q) = (rng.below(m.z.r), rng.below(m.z.q));
-        match rng.below(9) {
+        match rng.below(11) {
             0 | 1 => m.sleep(r, rng.bits() as u8, None),
             2 | 3 => m.sleep(r, rng.bits() as u8, Some(m.last_now + duration(m, rng))),
-            4 => m.qlock(q),
-            5 => m.wait(),
-            6 => m.wakeup(r),
+            4..=6 => m.qlock(q),
+            7 => m.wait(),
+            8 => m.wakeup(r),
             _ => {}
         }
         m.yields();
     }
-    if rng.percent(70) {
-        m.dispatch(rng.percent(20));
+    if rng.percent(75) {
+        let (r, q) = (rng.below(m.z.r), rng.below(m.z.q));
+        if m.ready.is_empty() {
+            m.wakeup(r);
+        }
+        if m.ready.is_empty() && m.locks[q].held {
+            m.qunlock(q);
+        }
+        m.dispatch(false);
     }
 }
 
@@ -224,7 +231,10 @@ fn fill_cells(m: &mut Machine, percent: usize, rng: &mut Random) {
         let at = rng.below(living.len());
         let wanted = if rng.percent(30) { 128 } else { rng.between(1, 40) };
         for _ in 0..wanted {
-            if free.len() > kept_free && m.next_pid < u64::MAX && m.process(living[at]).exits.len() < 128 {
+            if free.len() > kept_free
+                && m.next_pid < u64::MAX
+                && m.process(living[at]).exits.len() < 128
+            {
                 let cell = free.swap_remove(rng.below(free.len()));
                 m.next_pid += 1;
                 m.tell(living[at], m.next_pid - 1, Some(cell), message(rng));
