@@ -21,8 +21,8 @@ use Rattle.state.specs.Fields as fields
 use Rattle.state.specs.Abs.{linkTo, isSet, waiterList, timerList, exitList, waitsOn, exitAt, processAt, machineOf}
 use Rattle.state.specs.WellFormed.{Used, Rising, ageList}
 use Rattle.rules.specs.Facts.{countBelow, Facts, UsedOk, SleepsHere, WaitsHere, isChildOf}
-use Rattle.exact.specs.Sums.{bit, each-count, count-distinct, sum-same, count-sum}
-use Rattle.exact.specs.Tables.{table-length, each-table, each-map, map-back, countThat-table, some-link}
+use Rattle.exact.specs.Sums.{count-distinct, sum-same, count-sum}
+use Rattle.exact.specs.Tables.{each-table, each-map, map-back, countThat-table, some-link}
 use Rattle.exact.specs.Bounds.{InBounds, inside, at-most}
 use Rattle.exact.specs.Resumes.{resume-nothing, resume-sleeps, resume-lock, resume-wait, resume-tsleep, resume-range, test-both, set-test, test-unset}
 use Rattle.exact.specs.Parts.{walk-none, usedAt, free-at, either-at, process-of, pid-of, used-of, resume-of, sleeper-of, lock-of, setting-of, waitr-of}
@@ -30,6 +30,8 @@ use Rattle.exact.specs.Spots.{tags-used, spots-places}
 use Rattle.exact.specs.FactsSpots.{facts-tags, facts-call, facts-spots}
 use Rattle.exact.specs.CellLists.{cells-once}
 use Rattle.exact.specs.FactsRep.{facts-waiting, facts-counted, facts-owning, facts-ages}
+use Rattle.lists.specs.Lists.{bit, each-count}
+use Rattle.state.specs.Tables.{table-length}
 
 -- Lists of records made of numbers.
 map-length : {A B : Type 0} (f : A → B) (xs : List A) → length (map f xs) ≡ length xs

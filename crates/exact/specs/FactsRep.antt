@@ -16,13 +16,14 @@ use Rattle.state.specs.Fields as fields
 use Rattle.state.specs.Abs.{isSet, waiterList, timerList, exitList}
 use Rattle.state.specs.WellFormed.{Used, Tagged, Queues, Cells, Ages, ageList}
 use Rattle.rules.specs.Facts.{sumBelow, Facts, WaitsHere}
-use Rattle.exact.specs.Sums.{bit, all-met-past, family-met-past, each-count, sum-some}
+use Rattle.exact.specs.Sums.{all-met-past, family-met-past, sum-some}
 use Rattle.exact.specs.Bounds.{InBounds, inside, at-most}
 use Rattle.exact.specs.Resumes.{set-test, unset-test}
 use Rattle.exact.specs.Parts.{walk-none}
 use Rattle.exact.specs.Spots.{spots-asleep}
 use Rattle.exact.specs.FactsSpots.{facts-tags, facts-spots}
 use Rattle.exact.specs.CellLists.{exitsOf, exits-in, Owning, owning-family, exits-counted}
+use Rattle.lists.specs.Lists.{bit, each-count}
 
 pub bit-eqb : (v : ℕ) → v ≤ 1 → bit (eqb v 1) ≡ v
 bit-eqb zero l = refl

@@ -13,11 +13,12 @@ use Rattle.chain.specs.Lists.{all-map}
 use Rattle.state.specs.Fields as fields
 use Rattle.state.specs.Abs.{linkTo, runList, waiterList}
 use Rattle.rules.specs.Facts.{Facts, CallOk, isReady, isQueueing}
-use Rattle.exact.specs.Sums.{bit, bit-of, all-met-past, Family, family-most, family-met-past, sum-part}
+use Rattle.exact.specs.Sums.{bit-of, all-met-past, Family, family-most, family-met-past, sum-part}
 use Rattle.exact.specs.Tables.{link-count, count-link, each-link, distinct-link}
 use Rattle.exact.specs.Bounds.{InBounds, inside, at-most}
 use Rattle.exact.specs.Resumes.{Sleeps, inSleeps, sleeps-test, test-sleeps, both-test}
 use Rattle.exact.specs.Spots.{onRendez, inLocks, Tags, Spots, tags-used}
+use Rattle.lists.specs.Lists.{bit}
 
 module _ {z : Sizes} {m : Memory} (b : InBounds z m) (f : Facts z m) where
   pub facts-tags : Tags m

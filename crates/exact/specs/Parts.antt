@@ -15,7 +15,7 @@ use Rattle.state.specs.Fields as fields
 use Rattle.state.specs.Abs.{table, linkTo, isSet, resumeOf, waiterList, exitList, waitsOn, exitAt, processAt, machineOf}
 use Rattle.state.specs.WellFormed.{Used}
 use Rattle.exact.specs.Bounds.{InBounds}
-use Rattle.exact.specs.Tables.{table-get, table-past}
+use Rattle.state.specs.Tables.{table-get, table-past}
 
 pub walk-none : (n : ℕ) (g : ℕ → ℕ) (h : ℕ) → h ≡ 0 → walk n g h ≡ []
 unfolding walk

@@ -9,7 +9,8 @@ use lib.Dec.{eqb}
 use Rattle.machine.specs.Machine.{Sizes, nothing, inQlock, inWait}
 use Rattle.machine.specs.Good.{SleepsOn, IsTsleep, ResumeInRange}
 use Rattle.state.specs.Abs.{resumeOf, isSet}
-use Rattle.exact.specs.Sums.{bit, true-false}
+use Rattle.exact.specs.Sums.{true-false}
+use Rattle.lists.specs.Lists.{bit}
 
 abbrev pub Sleeps : ℕ → Type 0
 Sleeps k = (k ≡ 1) ⊎ (k ≡ 2)

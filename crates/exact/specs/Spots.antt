@@ -15,11 +15,12 @@ use Rattle.state.specs.Fields as fields
 use Rattle.state.specs.Abs.{table, linkTo, isSet, runList, waiterList, waitsOn, processAt, machineOf}
 use Rattle.state.specs.WellFormed.{Used}
 use Rattle.rules.specs.Facts.{countBelow, sumBelow, isReady, isAsleep, isQueueing}
-use Rattle.exact.specs.Sums.{bit, bit-true, count-append, count-each, met-all}
-use Rattle.exact.specs.Tables.{count-concat, present-concat, count-numbers}
+use Rattle.exact.specs.Sums.{bit-true, met-all}
+use Rattle.exact.specs.Tables.{count-concat}
 use Rattle.exact.specs.Bounds.{InBounds, inside, at-most}
 use Rattle.exact.specs.Resumes.{inSleeps, five, five-all, asleep-three, set-test, unset-test, test-set}
 use Rattle.exact.specs.Parts.{waitr-of, living-of}
+use Rattle.lists.specs.Lists.{bit, count-append, count-each, present-concat, count-numbers}
 
 -- How often record i is found on a Rendez, and in a lock's queue.
 abbrev pub onRendez : Sizes → Memory → ℕ → ℕ

@@ -10,12 +10,9 @@ use lib.Dec.{eqb, ltb}
 use lib.ListN.{length}
 use Rattle.machine.specs.Basics.{if_then_else_, count}
 use Rattle.machine.specs.Good.{Each}
+use Rattle.lists.specs.Lists.{bit, count-append, each-count, count-each}
 use Rattle.chain.specs.Lists.{Below, Absent, Distinct}
 use Rattle.rules.specs.Facts.{countBelow, sumBelow}
-
--- 1 for true, 0 for false
-abbrev pub bit : Bool → ℕ
-bit b = if b then 1 else 0
 
 pub true-false : true ≡ false → ⊥
 true-false e = let z : _≡_ {A = ℕ} 0 1 = cc in omega arith
@@ -111,25 +108,6 @@ count-sum zero test = refl
 count-sum (suc n) test = omega (arith, count-sum n test)
 
 -- How often a number stands in a list.
-pub count-append : (k : ℕ) (xs ys : List ℕ) → count k (xs ++ ys) ≡ count k xs + count k ys
-unfolding count
-count-append k [] ys = omega arith
-count-append k (x ∷ xs) ys = omega (arith, count-append k xs ys)
-
-pub each-count : (P : ℕ → Type 0) (xs : List ℕ) → Each P xs → (k : ℕ) → 1 ≤ count k xs → P k
-unfolding count
-each-count P [] h k c = absurd (not-suc-le-zero c)
-each-count P (x ∷ xs) h k c = go (eqb k x) refl (λ l. each-count P xs (h .1) k l)
-  where
-    go : (b : Bool) → eqb k x ≡ b → (1 ≤ count k xs → P k) → P k
-    go true e rec = subst P (sym (eqb-true k x e)) (h .0)
-    go false e rec = rec (omega (arith, ap bit e))
-
-pub count-each : (P : ℕ → Type 0) (xs : List ℕ) → ((k : ℕ) → 1 ≤ count k xs → P k) → Each P xs
-unfolding count
-count-each P [] h = tt
-count-each P (x ∷ xs) h = (h x (omega (arith, ap bit (eq-eqb x x refl))), count-each P xs (λ k c. h k (omega arith)))
-
 pub count-absent : (xs : List ℕ) (k : ℕ) → Absent k xs → count k xs ≡ 0
 count-absent xs k a = go (ltb 0 (count k xs)) refl
   where

@@ -14,24 +14,8 @@ use Rattle.machine.specs.Good.{Each, runningIn}
 use Rattle.chain.specs.Lists.{Distinct}
 use Rattle.state.specs.Abs.{table, linkTo}
 use Rattle.rules.specs.Facts.{countBelow, sumBelow}
-use Rattle.exact.specs.Sums.{bit, sum-front, count-sum, count-append}
-
-pub table-length : {A : Type 0} (n : ℕ) (f : ℕ → A) → length (table n f) ≡ n
-unfolding table
-table-length zero f = refl
-table-length (suc n) f = ap suc (table-length n (λ k. f (suc k)))
-
-pub table-get : {A : Type 0} (n : ℕ) (f : ℕ → A) (i : ℕ) (d : A) → i < n → getD (table n f) i d ≡ f i
-unfolding table
-table-get zero f i d h = absurd (not-suc-le-zero h)
-table-get (suc n) f zero d h = refl
-table-get (suc n) f (suc i) d h = table-get n (λ k. f (suc k)) i d (le-of-suc-le-suc h)
-
-pub table-past : {A : Type 0} (n : ℕ) (f : ℕ → A) (i : ℕ) (d : A) → n ≤ i → getD (table n f) i d ≡ d
-unfolding table
-table-past zero f i d h = refl
-table-past (suc n) f zero d h = absurd (not-suc-le-zero h)
-table-past (suc n) f (suc i) d h = table-past n (λ k. f (suc k)) i d (le-of-suc-le-suc h)
+use Rattle.exact.specs.Sums.{sum-front, count-sum}
+use Rattle.lists.specs.Lists.{bit, count-append}
 
 pub each-table : {A : Type 0} (P : A → Type 0) (n : ℕ) (f : ℕ → A) → ((i : ℕ) → i < n → P (f i)) → Each P (table n f)
 unfolding table
@@ -67,12 +51,6 @@ count-concat (suc n) f g k =
     ∙ ap (λ (x : ℕ). count k (g (f 0)) + x) (count-concat n (λ q. f (suc q)) g k)
     ∙ sym (sum-front n (λ q. count k (g (f q))))
 
-pub present-concat : (os : List (Option ℕ)) → present os ≡ concatMap runningIn os
-unfolding present concatMap runningIn
-present-concat [] = refl
-present-concat (none ∷ os) = present-concat os
-present-concat (some a ∷ os) = ap {B = List ℕ} (λ r. a ∷ r) (present-concat os)
-
 -- How many values pass a test.
 countThat-sum : {A : Type 0} (test : A → Bool) (n : ℕ) (f : ℕ → A) → countThat test (table n f) ≡ sumBelow n (λ i. bit (test (f i)))
 unfolding countThat table sumBelow
@@ -82,35 +60,6 @@ countThat-sum test (suc n) f =
 
 pub countThat-table : {A : Type 0} (test : A → Bool) (n : ℕ) (f : ℕ → A) → countThat test (table n f) ≡ countBelow n (λ i. test (f i))
 countThat-table test n f = countThat-sum test n f ∙ sym (count-sum n (λ i. test (f i)))
-
--- The numbers of those that pass.
-count-low : {A : Type 0} (test : A → Bool) (xs : List A) (n k : ℕ) → k < n → count k (numbersFrom n test xs) ≡ 0
-unfolding numbersFrom count
-count-low test [] n k h = refl
-count-low test (x ∷ xs) n k h = go (test x) (count-low test xs (suc n) k (omega arith))
-  where
-    go : (b : Bool) → count k (numbersFrom (suc n) test xs) ≡ 0 → count k (if b then n ∷ numbersFrom (suc n) test xs else numbersFrom (suc n) test xs) ≡ 0
-    go true r = omega (arith, ap bit (ne-eqb k n (λ e. omega arith)))
-    go false r = r
-
-count-from : {A : Type 0} (test : A → Bool) (d : A) → test d ≡ false → (xs : List A) (n k : ℕ) → count (n + k) (numbersFrom n test xs) ≡ bit (test (getD xs k d))
-unfolding numbersFrom count
-count-from test d e [] n k = sym (ap bit e)
-count-from test d e (x ∷ xs) n zero = go (test x) (count-low test xs (suc n) (n + 0) (omega arith))
-  where
-    go : (b : Bool) → count (n + 0) (numbersFrom (suc n) test xs) ≡ 0 → count (n + 0) (if b then n ∷ numbersFrom (suc n) test xs else numbersFrom (suc n) test xs) ≡ bit b
-    go true r = omega (arith, ap bit (eq-eqb (n + 0) n (omega arith)))
-    go false r = r
-count-from test d e (x ∷ xs) n (suc k) =
-    go (test x) (subst (λ (a : ℕ). count a (numbersFrom (suc n) test xs) ≡ bit (test (getD xs k d))) (omega arith) (count-from test d e xs (suc n) k))
-  where
-    go : (b : Bool) → count (n + suc k) (numbersFrom (suc n) test xs) ≡ bit (test (getD xs k d))
-        → count (n + suc k) (if b then n ∷ numbersFrom (suc n) test xs else numbersFrom (suc n) test xs) ≡ bit (test (getD xs k d))
-    go true r = omega (arith, ap bit (ne-eqb (n + suc k) n (λ e. omega arith)))
-    go false r = r
-
-pub count-numbers : {A : Type 0} (test : A → Bool) (d : A) → test d ≡ false → (xs : List A) (k : ℕ) → count k (numbersFrom 0 test xs) ≡ bit (test (getD xs k d))
-count-numbers test d e xs k = subst (λ (a : ℕ). count a (numbersFrom 0 test xs) ≡ bit (test (getD xs k d))) (zero-add k) (count-from test d e xs 0 k)
 
 -- Whom a link names, as a list.
 pub link-count : (l i : ℕ) → l ≡ suc i → count i (runningIn (linkTo l)) ≡ 1

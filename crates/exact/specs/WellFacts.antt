@@ -19,7 +19,7 @@ use Rattle.state.specs.Fields as fields
 use Rattle.state.specs.Abs.{linkTo, isSet, runList, waiterList, timerList, exitList, processAt, machineOf}
 use Rattle.state.specs.WellFormed.{Used, Tagged, Queues, Cells, Ages, Index, ageList}
 use Rattle.rules.specs.Facts.{sumBelow, Facts, HeaderOk, RecordOk, UsedOk, CallOk, LockOk, TimerOk, TimersOk, AgesOk, isReady, isQueueing}
-use Rattle.exact.specs.Sums.{bit, bit-true, each-count, count-each, sum-part, sum-some, met-all, met-family, family-most}
+use Rattle.exact.specs.Sums.{bit-true, sum-part, sum-some, met-all, met-family, family-most}
 use Rattle.exact.specs.Tables.{table-each, map-each, count-link, link-some}
 use Rattle.exact.specs.Bounds.{InBounds, inside, at-most}
 use Rattle.exact.specs.Resumes.{Sleeps, nothing-resume, tsleep-resume, range-rendez, range-lock, sleeps-test, set-test, unset-test, test-set}
@@ -29,6 +29,7 @@ use Rattle.exact.specs.WellSpots.{well-sleeps, well-waits, well-spots}
 use Rattle.exact.specs.CellLists.{exitsOf, exits-used, Owning, owning-family, exits-counted}
 use Rattle.exact.specs.FactsRep.{bit-eqb}
 use Rattle.exact.specs.FactsGood.{queuedAt, timers-back, children-of}
+use Rattle.lists.specs.Lists.{bit, each-count, count-each}
 
 deadlines : (m : Memory) (xs : List ℕ) → ByDeadline (map (queuedAt m) xs) → Sorted (m fields.deadline) xs
 deadlines m [] s = tt

@@ -13,12 +13,13 @@ use Rattle.state.specs.Fields as fields
 use Rattle.state.specs.Abs.{linkTo, isSet, runList, waiterList, waitsOn, machineOf}
 use Rattle.state.specs.WellFormed.{Used, Tagged}
 use Rattle.rules.specs.Facts.{isReady, isQueueing, SleepsHere, WaitsHere}
-use Rattle.exact.specs.Sums.{bit, bit-small, bit-most, each-count, count-each, sum-some}
+use Rattle.exact.specs.Sums.{bit-small, bit-most, sum-some}
 use Rattle.exact.specs.Tables.{count-link, link-some}
 use Rattle.exact.specs.Bounds.{InBounds, at-most}
 use Rattle.exact.specs.Resumes.{Sleeps, inSleeps, five, five-most, five-kind, sleeps-resume, lock-resume, sleeps-test, both-test}
 use Rattle.exact.specs.Parts.{resumeAt, resume-of, sleeper-of, lock-of, living-of}
 use Rattle.exact.specs.Spots.{onRendez, inLocks, Tags, Spots, tags-used, tags-set, place-count}
+use Rattle.lists.specs.Lists.{bit, each-count, count-each}
 
 module _ {z : Sizes} {m : Memory} (b : InBounds z m) (t : Tagged z m) (g : Good (machineOf z m)) where
   pub well-tags : Tags m

@@ -11,8 +11,9 @@ use lib.Dec.{eqb}
 use Rattle.machine.specs.Basics.{count}
 use Rattle.machine.specs.Machine.{Resume, nothing, inSleep, inTsleep, inQlock, inWait}
 use Rattle.history.specs.History.{Place, absent, running, inRunQueue, onRendez, onOwnWaitr, inLockQueue, Reading, enters, readies, at}
-use Rattle.history.specs.Lists.{at-other, at-cases, count-append, count-here, count-other}
+use Rattle.history.specs.Lists.{at-other, at-cases, count-here, count-other}
 use Rattle.history.specs.View.{View, fromRendezV, fromLockV, fromWaitrV}
+use Rattle.lists.specs.Lists.{count-append}
 
 -- a view holds record i in a place
 abbrev pub Held : View → ℕ → Place → Type 0

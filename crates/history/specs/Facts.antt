@@ -14,7 +14,8 @@ use Rattle.machine.specs.Step.{Step}
 use Rattle.machine.specs.Exits.{freeRecord}
 use Rattle.machine.specs.Table.{table, order, holds, firstOf, refusal}
 use Rattle.machine.specs.Good.{InOnePlace, runningIn, places}
-use Rattle.history.specs.Lists.{count-append, count-here}
+use Rattle.history.specs.Lists.{count-here}
+use Rattle.lists.specs.Lists.{count-append}
 
 -- the places of a record, added up
 abbrev pub inPlaces : Machine → ℕ → ℕ

@@ -58,12 +58,6 @@ getD-set {B = B} f l i a d j h =
     (λ e. ap f (ap (λ (k : ℕ). getD (set l i a) k d) (sym e) ∙ getD-set-same l i a d h))
     (λ n. ap f (getD-set-other l i j a d (λ e. n (sym e))))
 
-pub count-append : (i : ℕ) (xs ys : List ℕ) → count i (xs ++ ys) ≡ count i xs + count i ys
-unfolding count
-count-append i [] ys = sym (zero-add (count i ys))
-count-append i (x ∷ xs) ys = omega (arith, count-append i xs ys)
-
--- one more at the front
 pub count-here : (i : ℕ) (xs : List ℕ) → count i (i ∷ xs) ≡ suc (count i xs)
 unfolding count
 count-here i xs = rw (eq-eqb i i refl) (omega arith)

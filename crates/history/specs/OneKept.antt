@@ -11,9 +11,10 @@ use lib.Dec.{eqb}
 use Rattle.machine.specs.Basics.{count}
 use Rattle.machine.specs.Good.{runningIn}
 use Rattle.history.specs.History.{Says, at}
-use Rattle.history.specs.Lists.{at-cases, at-kept, count-append, count-here, count-other}
+use Rattle.history.specs.Lists.{at-cases, at-kept, count-here, count-other}
 use Rattle.history.specs.View.{View, goneV, Wakes, nobody, ticking, fromRendez, fromLock, fromWaitr, _next_, Change, wakes, makes, dispatches, dozes, waitsOn, givesWay, goesAsleep, waits, queues, leaves, spends}
 use Rattle.history.specs.Sums.{hit, bit, asleepIn, inView, OnePlace, sleepers-at, waiters-at}
+use Rattle.lists.specs.Lists.{count-append}
 
 -- one for j and nothing for anybody else
 abbrev one : ℕ → ℕ → ℕ

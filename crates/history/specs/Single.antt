@@ -12,8 +12,9 @@ use Rattle.machine.specs.Machine.{Machine, Process, Lock, free, process, sleepe
 use Rattle.machine.specs.Good.{InOnePlace, runningIn}
 use Rattle.history.specs.History.{Place, absent, running, inRunQueue, onRendez, onOwnWaitr, inLockQueue}
 use Rattle.history.specs.Demand3.{HeldIn, isAsleep}
-use Rattle.history.specs.Lists.{count-append, count-here}
+use Rattle.history.specs.Lists.{count-here}
 use Rattle.history.specs.Facts.{inPlaces, places-at-most, up-count}
+use Rattle.lists.specs.Lists.{count-append}
 
 -- sleepers
 present-hit : (i : ℕ) (o : Option ℕ) (l : List (Option ℕ)) → o ≡ some i → count i (present (o ∷ l)) ≡ suc (count i (present l))

@@ -13,10 +13,11 @@ use Rattle.machine.specs.Basics.{if_then_else_, count, present, numbersFrom, co
 use Rattle.machine.specs.Machine.{Machine, Process, Lock, free, openMachine}
 use Rattle.machine.specs.Good.{InOnePlace, runningIn, places}
 use Rattle.history.specs.History.{at}
-use Rattle.history.specs.Lists.{at-same, at-other, count-append, count-here, count-other}
+use Rattle.history.specs.Lists.{at-same, at-other, count-here, count-other}
 use Rattle.history.specs.View.{View, view}
 use Rattle.history.specs.Facts.{in-places}
 use Rattle.history.specs.Single.{onRendezs, onWaitrs, inLocks, asleep-parts}
+use Rattle.lists.specs.Lists.{count-append}
 
 -- f 0 + f 1 + .. , n of them
 unfoldable pub sumTo : ℕ → (ℕ → ℕ) → ℕ

@@ -11,9 +11,9 @@ use Rattle.machine.specs.Good.{Each}
 use Rattle.history.specs.Sound.{Sound}
 use Rattle.history.specs.History.{Input, Event, gives, eventOf, historyFrom, machineAfter, saysOf, queueFrom, queueAfter, dispatchedIn}
 use Rattle.history.specs.Demand3.{Stay, InTurn, Dispatches}
-use Rattle.history.specs.Lists.{count-append}
 use Rattle.history.specs.Kept.{sound-gives}
 use Rattle.history.specs.Queue.{queuePids, key-law, either-law, dispatch-law, queue-next, cut, queue-differs}
+use Rattle.lists.specs.Lists.{count-append}
 
 -- The run queue read over one history and then another, and over one event more.
 queue-append : (q : List ℕ) (h k : List Event) → queueFrom q (h ++ k) ≡ queueFrom (queueFrom q h) k

@@ -12,7 +12,7 @@ use Rattle.machine.specs.Basics.{if_then_else_, count, filter}
 use Rattle.machine.specs.Machine.{Sizes, Process, Setting, Queued, free}
 use Rattle.machine.specs.Timers.{insert, remove}
 use Rattle.machine.specs.Good.{Each, SettingInRange, QueuedInRange, ByDeadline, IsTsleep}
-use Rattle.kept.specs.Lists.{bit, either, each-set, each-map, count-self, count-other}
+use Rattle.lists.specs.Lists.{bit, either, each-set, each-map, count-self, count-other}
 use Rattle.kept.specs.Fine.{at, timersOf, Records, Clockwork, Tsleeping}
 use Rattle.kept.specs.SpotsLaws.{get-cases}
 

@@ -20,7 +20,7 @@ use Rattle.machine.specs.Exits.{found, cellsUsed, freeCell, without, hasRoom, m
 use Rattle.machine.specs.Table.{refusal, running, openTable}
 use Rattle.machine.specs.Perform.{perform, exitOf}
 use Rattle.machine.specs.Good.{Each, Byte, ExitInRange, ProcessInRange, runningIn}
-use Rattle.kept.specs.Lists.{bit, first-some, first-none, highest-some, elem-none, count-self, count-other}
+use Rattle.lists.specs.Lists.{bit, first-some, first-none, highest-some, elem-none, count-self, count-other}
 use Rattle.kept.specs.Fine.{at, cellsIn, waitersOf, timersOf, Fine}
 use Rattle.kept.specs.Fresh.{free-fine}
 use Rattle.kept.specs.SpotsLaws.{pid-low, pid-lives, pid-dead, spots-process}

@@ -15,7 +15,7 @@ use Rattle.machine.specs.Machine.{Sizes, nothing, inQlock, inWait, Exit, Proces
 use Rattle.machine.specs.Exits.{cellsUsed}
 use Rattle.machine.specs.Timers.{ownTimer}
 use Rattle.machine.specs.Good.{Good, Each, SizesInRange, ProcessInRange, SettingInRange, QueuedInRange, SleepsOn, ByDeadline, IsTsleep, runningIn, places, children}
-use Rattle.kept.specs.Lists.{bit, each-count, count-each, count-append, count-only, count-self, present-concat, count-numbers}
+use Rattle.lists.specs.Lists.{bit, each-count, count-each, count-append, count-only, count-self, present-concat, count-numbers}
 
 -- What stands at a number, in the lists of a machine.
 abbrev pub at : List Process → ℕ → Process

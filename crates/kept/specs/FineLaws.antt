@@ -11,7 +11,7 @@ use Rattle.machine.specs.Basics.{count, concatMap}
 use Rattle.machine.specs.Machine.{Resume, inWait, Process, Lock, Setting, Queued, Machine, living}
 use Rattle.machine.specs.Update.{withNextPid, withTicks, withLastNow, withUp, withRun, withProcess, withSleeper, withLock, withSetting, withQueued, withCondition}
 use Rattle.machine.specs.Good.{ProcessInRange, IsTsleep, runningIn}
-use Rattle.kept.specs.Lists.{bit}
+use Rattle.lists.specs.Lists.{bit}
 use Rattle.kept.specs.Fine.{at, cellsIn, waitersOf, timersOf, Records, Clockwork, Tsleeping, Spots, Fine}
 use Rattle.kept.specs.SpotsLaws.{lives-pid, pid-low, pid-lives, spots-process}
 use Rattle.kept.specs.KinLaws.{records-set, kin-owed, kin-next, kin-change}

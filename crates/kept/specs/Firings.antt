@@ -19,7 +19,7 @@ use Rattle.machine.specs.Timers.{insert, twakeup, callback, periodOf, readd, Fi
 use Rattle.machine.specs.Table.{refusal, openTable}
 use Rattle.machine.specs.Perform.{perform, intrOf}
 use Rattle.machine.specs.Good.{SettingInRange}
-use Rattle.kept.specs.Lists.{either, each-get}
+use Rattle.lists.specs.Lists.{either, each-get}
 use Rattle.kept.specs.Fine.{timersOf, Clockwork, Tsleeping, Fine}
 use Rattle.kept.specs.SpotsLaws.{low}
 use Rattle.kept.specs.ClockLaws.{clock-insert, clock-tick, clock-tail, head-gone, records-tick, own-insert, own-tail}

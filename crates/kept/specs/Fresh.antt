@@ -13,7 +13,7 @@ use Rattle.clock.specs.Laws.{counts-mono, counts-positive}
 use Rattle.machine.specs.Basics.{count, concatMap}
 use Rattle.machine.specs.Machine.{Sizes, Lock, Setting, free, fresh, living}
 use Rattle.machine.specs.Good.{Good, Each, Byte, SizesInRange, ProcessInRange, SettingInRange, runningIn}
-use Rattle.kept.specs.Lists.{bit, each-set}
+use Rattle.lists.specs.Lists.{bit, each-set}
 use Rattle.kept.specs.Fine.{at, unheld, cellsIn, waitersOf, Fine, good}
 
 -- Lists of one thing over and over.

@@ -16,7 +16,7 @@ use Rattle.machine.specs.Table.{refusal, on, openTable}
 use Rattle.machine.specs.Perform.{perform}
 use Rattle.machine.specs.StepOf.{leftBy, refusing, stepOf, outcomeOf}
 use Rattle.machine.specs.Good.{Good}
-use Rattle.kept.specs.Lists.{either}
+use Rattle.lists.specs.Lists.{either}
 use Rattle.kept.specs.Fine.{Fine, fine, good}
 use Rattle.kept.specs.FineLaws.{fine-next}
 use Rattle.kept.specs.Allowed.{and-left, and-right, step, before, earlier, caused, pid-left}

@@ -10,7 +10,7 @@ use lib.ListN.{length, set, length-set}
 use Rattle.machine.specs.Basics.{count, countThat, concatMap}
 use Rattle.machine.specs.Machine.{Sizes, Process, free, living}
 use Rattle.machine.specs.Good.{ProcessInRange}
-use Rattle.kept.specs.Lists.{bit, each-set, count-concat-set, countThat-set, countThat-none, count-self, count-other}
+use Rattle.lists.specs.Lists.{bit, each-set, count-concat-set, countThat-set, countThat-none, count-self, count-other}
 use Rattle.kept.specs.Fine.{at, cellsIn, isChild, Records, Kin}
 use Rattle.kept.specs.SpotsLaws.{get-cases, pid-lives}
 

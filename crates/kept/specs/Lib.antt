@@ -1,5 +1,4 @@
 -- The laws, in the order in which to read them.
-pub mod Lists
 pub mod Fine
 pub mod Fresh
 pub mod SpotsLaws

@@ -19,7 +19,7 @@ use Rattle.machine.specs.Exits.{freeRecord}
 use Rattle.machine.specs.Table.{refusal, openTable}
 use Rattle.machine.specs.Perform.{perform, made, startOf, rforkOf}
 use Rattle.machine.specs.Good.{Each, Byte, ProcessInRange, IsTsleep, runningIn}
-use Rattle.kept.specs.Lists.{bit, highest-some, highest-none, count-self, count-other}
+use Rattle.lists.specs.Lists.{bit, highest-some, highest-none, count-self, count-other}
 use Rattle.kept.specs.Fine.{at, waitersOf, Fine}
 use Rattle.kept.specs.Fresh.{each-replicate}
 use Rattle.kept.specs.SpotsLaws.{get-cases, pid-lives, pid-dead, spots-process, pid-low}

@@ -10,7 +10,7 @@ use lib.ListN.{length, getD, take, length-take}
 use Rattle.machine.specs.Basics.{if_then_else_, isEmpty, ascii}
 use Rattle.machine.specs.Message.{digits, decimal, upToZero, continuation, moveBack, cut, message}
 use Rattle.machine.specs.Good.{Each, Byte}
-use Rattle.kept.specs.Lists.{either, each-append}
+use Rattle.lists.specs.Lists.{either, each-append}
 
 -- The first few of a list have what all have.
 each-take : {A : Type 0} (P : A → Type 0) (n : ℕ) (xs : List A) → Each P xs → Each P (take n xs)

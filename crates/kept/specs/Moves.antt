@@ -13,7 +13,7 @@ use Rattle.machine.specs.Machine.{Resume, nothing, inQlock, inWait, Lock, Machi
 use Rattle.machine.specs.Update.{withUp, withRun, withProcess, withSleeper, withLock, withResume, withOnWaitr}
 use Rattle.machine.specs.Places.{ready}
 use Rattle.machine.specs.Good.{ProcessInRange, ResumeInRange, SleepsOn, IsTsleep, runningIn}
-use Rattle.kept.specs.Lists.{bit, each-get, count-self, count-other, count-only, count-append}
+use Rattle.lists.specs.Lists.{bit, each-get, count-self, count-other, count-only, count-append}
 use Rattle.kept.specs.Fine.{at, unheld, lockAt, waitersOf, timersOf, Fine, option-in}
 use Rattle.kept.specs.SpotsLaws.{low, pid-low, spots-run, spots-sleeper, spots-lock}
 use Rattle.kept.specs.FineLaws.{bit-small, fine-up, fine-run, fine-sleeper, fine-lock, fine-call, counted-lives}

@@ -19,7 +19,7 @@ use Rattle.machine.specs.Exits.{cellsUsed, freeCell, without, messageDue}
 use Rattle.machine.specs.Table.{running, openTable}
 use Rattle.machine.specs.StepOf.{stepOf}
 use Rattle.machine.specs.Good.{Good, Each, ProcessInRange}
-use Rattle.kept.specs.Lists.{bit, highest-none}
+use Rattle.lists.specs.Lists.{bit, highest-none}
 use Rattle.kept.specs.Fine.{at, cellsIn, Fine, fine}
 use Rattle.kept.specs.SpotsLaws.{pid-low}
 use Rattle.kept.specs.Moves.{up-lives}

@@ -18,7 +18,7 @@ use Rattle.machine.specs.Timers.{delete, ownTimer, isQueued}
 use Rattle.machine.specs.Table.{refusal, taken, takenAgain, headTaken, openTable}
 use Rattle.machine.specs.Perform.{perform, schedOf, resumes, runs, checksAgain, tsleepChecks, waitChecks, takeExit, newest}
 use Rattle.machine.specs.Good.{ProcessInRange, ResumeInRange, SleepsOn, IsTsleep, runningIn}
-use Rattle.kept.specs.Lists.{bit}
+use Rattle.lists.specs.Lists.{bit}
 use Rattle.kept.specs.Fine.{at, timersOf, Fine}
 use Rattle.kept.specs.SpotsLaws.{pid-low, spots-run}
 use Rattle.kept.specs.ClockLaws.{count-removed}

@@ -21,7 +21,7 @@ use Rattle.machine.specs.Timers.{insert, remove, add, delete}
 use Rattle.machine.specs.Table.{refusal, inRange, badNow, openTable}
 use Rattle.machine.specs.Perform.{perform, current, nameOf, yieldOf, wakeupOf, canqlockOf, qunlockOf, condOf, clockOf, taddOf, tdelOf, dueOf}
 use Rattle.machine.specs.Good.{Each, Byte, ProcessInRange, SettingInRange, IsTsleep}
-use Rattle.kept.specs.Lists.{each-get, each-append}
+use Rattle.lists.specs.Lists.{each-get, each-append}
 use Rattle.kept.specs.Fine.{at, Fine}
 use Rattle.kept.specs.Fresh.{each-replicate, ten-small, ten-positive}
 use Rattle.kept.specs.SpotsLaws.{pid-low}

@@ -13,7 +13,7 @@ use lib.Seq.{getD-set-same, getD-set-other}
 use Rattle.machine.specs.Basics.{count, concatMap}
 use Rattle.machine.specs.Machine.{Sizes, Resume, nothing, inQlock, inWait, Process, Lock, free, living}
 use Rattle.machine.specs.Good.{SleepsOn, runningIn}
-use Rattle.kept.specs.Lists.{bit, count-concat-set, count-concat-get}
+use Rattle.lists.specs.Lists.{bit, count-concat-set, count-concat-get}
 use Rattle.kept.specs.Fine.{at, unheld, lockAt, waitersOf, Spots}
 
 -- What holds of the new element at its number, and of the others at theirs, holds after `set`.

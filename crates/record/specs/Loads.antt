@@ -11,19 +11,16 @@ use lib.ListN.{length, getD, set, length-set}
 use lib.Seq.{getD-set-same, getD-set-other, ext-getD}
 use Rattle.memory.specs.Le.{le, le-one}
 use Rattle.layout.specs.Table.{slot, start}
-use Rattle.layout.specs.Memory.{Memory, mem, Reach, reach-end, cell-in}
+use Rattle.layout.specs.Memory.{Memory, Reach, reach-end, cell-in}
 use Rattle.state.specs.Fields as fields
 use Rattle.state.specs.Abs.{table}
-use Rattle.state.specs.Places.{sizesIn, totalIn, startIn}
+use Rattle.state.specs.Tables.{table-length, table-get}
+use Rattle.state.specs.Places.{sizesIn, totalIn, startIn, memIn}
 use Rattle.state.specs.declared.Sizes.{Sizes}
 use Rattle.record.specs.declared.Proc.{Proc}
 use Rattle.record.specs.declared.Resume.{Resume}
 use Rattle.record.specs.declared.Ties.{Ties}
 use Rattle.record.specs.Resumes.{resumeIs}
-
--- The memory of the bytes at the sizes that the code carries.
-abbrev pub memIn : Sizes → List ℕ → Memory
-memIn z s = mem fields.layout1 (fields.counts (sizesIn z)) s
 
 -- There is a record i in the bytes.
 pub record LoadAsks (z : Sizes) (s : List ℕ) (i : ℕ) : Type 0 where
@@ -111,17 +108,6 @@ naming-more {s} {at} {text} {text′} {j} {j′} n l d q =
     go k false x h =
         rw d (getD-set-other text j k (getD s (at + j) 0) 0 (λ y. eqb-false j k x (sym y)) ∙ n .read k (omega (arith, eqb-false j k x)))
 
-table-at : (n : ℕ) (f : ℕ → ℕ) (i : ℕ) → i < n → getD (table n f) i 0 ≡ f i
-unfolding table
-table-at zero f i h = absurd (not-suc-le-zero h)
-table-at (suc n) f zero h = refl
-table-at (suc n) f (suc i) h = table-at n (λ k. f (suc k)) i (le-of-suc-le-suc h)
-
-table-length : (n : ℕ) (f : ℕ → ℕ) → length (table n f) ≡ n
-unfolding table
-table-length zero f = refl
-table-length (suc n) f = ap suc (table-length n (λ k. f (suc k)))
-
 pub naming-end
     : {z : Sizes} {s : List ℕ} {i at : ℕ} {text : List ℕ} {j : ℕ}
     → LoadAsks z s i
@@ -138,7 +124,7 @@ naming-end {z} {s} {i} {at} {text} {j} a e n l =
           (λ k h.
           n .read k (omega (arith, n .whole))
           ∙ rw e (name-byte z s i k a (omega (arith, n .whole)))
-          ∙ sym (table-at 28 (λ x. memIn z s fields.nameByte (28 * i + x)) k (omega (arith, n .whole))));
+          ∙ sym (table-get 28 (λ x. memIn z s fields.nameByte (28 * i + x)) k 0 (omega (arith, n .whole))));
     }
 
 -- The call of record i was loaded.

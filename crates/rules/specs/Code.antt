@@ -4,15 +4,11 @@ use mathlib.Core.List.{List}
 use Prim.Native.Nat.{ℕ, _≤_}
 use lib.ListN.{length}
 use Rattle.machine.specs.Good.{SizesInRange}
-use Rattle.layout.specs.Memory.{Memory, mem}
 use Rattle.layout.specs.Writes.{State}
 use Rattle.state.specs.Fields.{layout1, counts, mostOf}
 use Rattle.state.specs.Places.{sizesIn, totalIn}
+pub use Rattle.state.specs.Places.{memIn}
 use Rattle.state.specs.declared.Sizes.{Sizes}
-
--- The memory of the bytes at the sizes that the code carries.
-abbrev pub memIn : Sizes → List ℕ → Memory
-memIn z s = mem layout1 (counts (sizesIn z)) s
 
 -- The sizes are in range, and the bytes are as many as a state of these sizes takes.
 pub record Long (z : Sizes) (s : List ℕ) : Type 0 where

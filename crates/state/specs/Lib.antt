@@ -2,6 +2,7 @@
 pub mod Fields
 pub mod Ranges
 pub mod Abs
+pub mod Tables
 pub mod WellFormed
 pub mod Places
 pub mod Shown

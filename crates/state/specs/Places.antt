@@ -5,7 +5,7 @@ use lib.ListN.{length}
 use mathlib.Core.List.{List, [], _∷_, _++_}
 use Rattle.machine.specs.Machine as machine
 use Rattle.layout.specs.Table.{Slot, field, place, start, total}
-use Rattle.layout.specs.Memory.{Reach, Put, cell, write}
+use Rattle.layout.specs.Memory.{Memory, mem, Reach, Put, cell, write}
 use Rattle.layout.specs.Writes.{Write, to, writes, writes-join}
 use Rattle.state.specs.Fields.{layout1, counts}
 use Rattle.state.specs.declared.Sizes.{Sizes}
@@ -30,6 +30,10 @@ placeIn z a i = place layout1 (counts (sizesIn z)) a i
 
 abbrev pub totalIn : Sizes → ℕ
 totalIn z = total layout1 (counts (sizesIn z))
+
+-- The memory of the bytes.
+abbrev pub memIn : Sizes → List ℕ → Memory
+memIn z s = mem layout1 (counts (sizesIn z)) s
 
 -- What is in a slot of a record; that it lies within the bytes; and what a store there ensures.
 abbrev pub cellIn : Sizes → List ℕ → Slot → ℕ → ℕ

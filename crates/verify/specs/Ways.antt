@@ -26,9 +26,10 @@ use Rattle.scan.specs.All.{ProcessesOk}
 use Rattle.walks.specs.Queues.{QueueFacts, queue-facts}
 use Rattle.kin.specs.Kin.{KinAsks, KinFacts}
 use Rattle.kin.specs.Age.{Aged}
-use Rattle.exact.specs.Sums.{bit, all-met}
+use Rattle.exact.specs.Sums.{all-met}
 use Rattle.bounds.specs.InRange.{StateIn}
 use Rattle.index.specs.Words.{IndexIn}
+use Rattle.lists.specs.Lists.{bit}
 
 -- The header was read.
 pub record SizesRead (s : List ℕ) (z : Sizes) : Type 0 where
