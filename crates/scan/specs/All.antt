@@ -13,10 +13,10 @@ use Rattle.state.specs.declared.Sizes.{Sizes}
 use Rattle.rules.specs.Facts.{countBelow, sumBelow, HeaderOk, RecordOk, RendezOk, UpOk, RunOk, LockOk, isReady, isAsleep, isQueueing}
 use Rattle.scan.specs.declared.Counts.{Counts}
 use Rattle.scan.specs.declared.Walked.{Walked}
-use Rattle.scan.specs.Asks.{passed, failed}
 use Rattle.scan.specs.Tallies.{Counted}
 use Rattle.scan.specs.Queues.{RunWalked}
 use Rattle.scan.specs.Locks.{LocksOk}
+use Rattle.rules.specs.Loop.{passed, failed}
 
 pub record QueuesOk (z : machine.Sizes) (m : Memory) : Type 0 where
   pub run : RunOk z m

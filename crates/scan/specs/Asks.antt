@@ -44,20 +44,6 @@ pub most-at : {z : Sizes} {s : List ℕ} → Whole z s → (f i : ℕ) → memIn
 unfolding Ranged
 most-at w f i = w .state .ranged f i
 
--- What a test that was passed, and one that was not, shows.
-pub passed : {P : Type 0} (b : Bool) → Decides b P → not b ≡ false → P
-passed true d e = d
-passed false d e = absurd (false≢true (sym e))
-
-pub failed : {P : Type 0} (b : Bool) → Decides b P → not b ≡ true → P → ⊥
-failed true d e = absurd (false≢true e)
-failed false d e = d
-
--- A test that decides a statement decides another that is as true.
-pub decides-as : {P Q : Type 0} (b : Bool) → (P → Q) → (Q → P) → Decides b P → Decides b Q
-decides-as true f g d = f d
-decides-as false f g d = λ q. d (g q)
-
 -- A kind that is 1 or 2.
 pub one-or-two : {k : ℕ} → (k ≡ 1) ⊎ (k ≡ 2) → (1 ≤ k) × (k ≤ 2)
 one-or-two (inl e) = (omega arith, omega arith)
@@ -68,16 +54,3 @@ is-one-or-two zero a b = absurd (omega arith)
 is-one-or-two (suc zero) a b = inl refl
 is-one-or-two (suc (suc zero)) a b = inr refl
 is-one-or-two (suc (suc (suc k))) a b = absurd (omega arith)
-
--- What a loop over numbers has shown so far.
-pub record Passing (P : ℕ → Type 0) (i : ℕ) : Type 0 where
-  pub each : (j : ℕ) → j < i → P j
-
-pub pass-start : {P : ℕ → Type 0} → Passing P 0
-pass-start = record { each = λ j l. absurd (omega arith) }
-
-pub pass-more : {P : ℕ → Type 0} {i : ℕ} → Passing P i → P i → Passing P (i + 1)
-pass-more {P} {i} p h = record { each = below-more P i (p .each) h }
-
-pub pass-end : {P : ℕ → Type 0} {n i : ℕ} → Passing P i → n ≤ i → (j : ℕ) → j < n → P j
-pass-end p l j h = p .each j (omega arith)

@@ -16,8 +16,8 @@ use Rattle.state.specs.Places.{sizesIn}
 use Rattle.state.specs.declared.Sizes.{Sizes}
 use Rattle.rules.specs.Facts.{sumBelow, LockOk}
 use Rattle.scan.specs.declared.Walked.{Walked}
-use Rattle.scan.specs.Asks.{passed, failed}
 use Rattle.scan.specs.Queues.{LockFits, LockWalked}
+use Rattle.rules.specs.Loop.{passed, failed}
 
 abbrev pub waiters : machine.Sizes → Memory → ℕ → ℕ
 waiters z m q = length (waiterList z m q)

@@ -15,8 +15,9 @@ use Rattle.state.specs.declared.Sizes.{Sizes}
 use Rattle.rules.specs.Code.{Decides}
 use Rattle.rules.specs.Facts.{RunOk, WaitsHere, LockOk}
 use Rattle.scan.specs.declared.Walked.{Walked}
-use Rattle.scan.specs.Asks.{LinkIs, decides-as}
+use Rattle.scan.specs.Asks.{LinkIs}
 use Rattle.scan.specs.Lines.{member-ready, member-waits, Lined, LineWalked}
+use Rattle.rules.specs.Loop.{decides-as}
 
 -- The run queue.
 pub record RunWalked (z : Sizes) (m : Memory) (r : Walked) : Type 0 where

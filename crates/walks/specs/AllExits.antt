@@ -16,8 +16,9 @@ use Rattle.state.specs.WellFormed.{Used}
 use Rattle.state.specs.declared.Sizes.{Sizes}
 use Rattle.rules.specs.Facts.{ExitsOk, sumBelow}
 use Rattle.rules.specs.Code.{memIn, Whole, Decides}
-use Rattle.walks.specs.Loops.{Counts, counts-no, counts-yes, yes-of, no-of}
+use Rattle.walks.specs.Loops.{Counts, counts-no, counts-yes}
 use Rattle.walks.specs.Exits.{count-range}
+use Rattle.rules.specs.Loop.{yes-of, no-of}
 
 -- The exits that record i has, none where it is free; and that they are in order.
 abbrev pub exitCount : Memory → ℕ → ℕ

@@ -8,6 +8,7 @@ use borrow.Author.Count.{below-more}
 use Rattle.machine.specs.Basics.{if_then_else_}
 use Rattle.rules.specs.Facts.{countBelow}
 use Rattle.rules.specs.Code.{Decides}
+use Rattle.rules.specs.Loop.{yes-of, no-of, Passing, pass-more}
 
 -- 1 where a test holds, and 0 where not.
 abbrev pub one : Bool → ℕ
@@ -16,13 +17,6 @@ one b = if b then 1 else 0
 pub record Ones (b : Bool) (d : ℕ) : Type 0 where
   pub is : d ≡ one b
   pub small : d ≤ 1
-
--- What a test shows that decides a statement.
-pub yes-of : (b : Bool) (P : Type 0) → b ≡ true → Decides b P → P
-yes-of b P e d = subst (λ (x : Bool). Decides x P) e d
-
-pub no-of : (b : Bool) (P : Type 0) → b ≡ false → Decides b P → P → ⊥
-no-of b P e d = subst (λ (x : Bool). Decides x P) e d
 
 -- What a function answers that decides P and counts n things where P holds.
 pub record Counts (P : Type 0) (n : ℕ) (ok : Bool) (count : ℕ) : Type 0 where
@@ -66,27 +60,16 @@ count-more {e} {test} {f} {i} {n} {v} {d} {i′} {n′} c l p q r t =
 pub count-end : {e : ℕ} {test : ℕ → Bool} {f : ℕ → ℕ} {i n : ℕ} → Counting e test f i n → e ≤ i → n ≡ countBelow e (λ k. test (f k))
 count-end {e} {test} {f} {i} {n} c l = let q : i ≡ e = omega (arith, c .within) in rw (← q) (c .count)
 
--- Every number below i meets P.
-pub record AllBelow (P : ℕ → Type 0) (e i : ℕ) : Type 0 where
-  pub within : i ≤ e
-  pub all : (k : ℕ) → k < i → P k
-
-pub all-start : {P : ℕ → Type 0} {e : ℕ} → AllBelow P e 0
-all-start = record { within = omega arith; all = λ k l. absurd (omega arith) }
-
+-- A loop that tests each number below e: one number more passes, and one fails.
 pub all-more
     : {P : ℕ → Type 0} {e i i′ : ℕ} {b : Bool}
-    → AllBelow P e i
+    → Passing P e i
     → i < e
     → b ≡ true
     → Decides b (P i)
     → i′ ≡ i + 1
-    → AllBelow P e i′
-all-more {P} {e} {i} {i′} {b} a l t d q =
-    record { within = omega arith; all = rw q (below-more _ i (a .all) (yes-of b (P i) t d)) }
+    → Passing P e i′
+all-more {P} {e} {i} {i′} {b} a l t d q = pass-more a l (yes-of b (P i) t d) q
 
-pub all-yes : {P : ℕ → Type 0} {e i : ℕ} → AllBelow P e i → e ≤ i → (k : ℕ) → k < e → P k
-all-yes a l k h = a .all k (omega arith)
-
-pub all-no : {P : ℕ → Type 0} {e i : ℕ} {b : Bool} → AllBelow P e i → i < e → b ≡ false → Decides b (P i) → ((k : ℕ) → k < e → P k) → ⊥
+pub all-no : {P : ℕ → Type 0} {e i : ℕ} {b : Bool} → Passing P e i → i < e → b ≡ false → Decides b (P i) → ((k : ℕ) → k < e → P k) → ⊥
 all-no {P} {e} {i} {b} a l t d h = no-of b (P i) t d (h i l)

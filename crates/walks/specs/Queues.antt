@@ -15,10 +15,10 @@ use Rattle.state.specs.WellFormed.{Used, ageList}
 use Rattle.state.specs.declared.Sizes.{Sizes}
 use Rattle.rules.specs.Facts.{countBelow, sumBelow, TimerOk, TimersOk, ExitsOk, AgesOk, Facts}
 use Rattle.rules.specs.Code.{memIn, Whole, Decides}
-use Rattle.walks.specs.Loops.{yes-of, no-of}
 use Rattle.walks.specs.TimerQueue.{TimerCounts}
 use Rattle.walks.specs.AllExits.{AllExits}
 use Rattle.walks.specs.Ages.{AgeCounts}
+use Rattle.rules.specs.Loop.{yes-of, no-of}
 
 -- The timers.
 pub record TimerFacts (z : machine.Sizes) (m : Memory) : Type 0 where

@@ -12,7 +12,7 @@ use Rattle.state.specs.WellFormed.{Used}
 use Rattle.state.specs.declared.Sizes.{Sizes}
 use Rattle.rules.specs.Facts.{TimerOk}
 use Rattle.rules.specs.Code.{memIn, Whole, Decides}
-use Rattle.walks.specs.Loops.{yes-of, no-of}
+use Rattle.rules.specs.Loop.{yes-of, no-of}
 
 -- A period: none, or no shorter than 100 µs.
 pub record PeriodOk (hz p : ℕ) : Type 0 where

@@ -3,19 +3,20 @@ use Prim.Native.Nat.{_-_}
 use Rattle.state.specs.Places.{sizesIn}
 use Rattle.rules.specs.Code.{memIn}
 use borrow.Author.Needs.{needs}
-use Rattle.kin.specs.Loop.{Trying, try-start, try-more, try-no, try-yes}
+use Rattle.rules.specs.Loop.{Passing, pass-start}
+use Rattle.kin.specs.Loop.{try-more, try-no, try-yes}
 use Rattle.kin.specs.Kin.{Children}
 use Rattle.kin.proofs.children_ok.Statement.{statement}
 use Rattle.kin.proofs.children_ok.Tie as tie
 
 abbrev Inv-loop : tie.InvT-loop
-Inv-loop s z children p i₀ i = Trying (Children (sizesIn z) (memIn z s)) (z .processes) i
+Inv-loop s z children p i₀ i = Passing (Children (sizesIn z) (memIn z s)) (z .processes) i
 
 abbrev μ-loop : tie.MeasureT-loop
 μ-loop s z children p i₀ i = z .processes - i
 
 loop-holds : tie.Need-loop-holds Inv-loop μ-loop
-loop-holds c = search try-start
+loop-holds c = search pass-start
 
 child-ok-requires : tie.Need-child-ok-requires Inv-loop μ-loop
 child-ok-requires c κs = search needs

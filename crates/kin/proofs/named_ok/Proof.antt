@@ -3,19 +3,20 @@ use Prim.Native.Nat.{_-_}
 use Rattle.state.specs.Places.{sizesIn}
 use Rattle.rules.specs.Code.{memIn}
 use borrow.Author.Needs.{needs}
-use Rattle.kin.specs.Loop.{Trying, try-start, try-more, try-no, try-yes}
+use Rattle.rules.specs.Loop.{Passing, pass-start}
+use Rattle.kin.specs.Loop.{try-more, try-no, try-yes}
 use Rattle.kin.specs.Living.{Named}
 use Rattle.kin.proofs.named_ok.Statement.{statement}
 use Rattle.kin.proofs.named_ok.Tie as tie
 
 abbrev Inv-loop : tie.InvT-loop
-Inv-loop s z pids n p i₀ i = Trying (Named (sizesIn z) (memIn z s)) (z .processes) i
+Inv-loop s z pids n p i₀ i = Passing (Named (sizesIn z) (memIn z s)) (z .processes) i
 
 abbrev μ-loop : tie.MeasureT-loop
 μ-loop s z pids n p i₀ i = z .processes - i
 
 loop-holds : tie.Need-loop-holds Inv-loop μ-loop
-loop-holds c = search try-start
+loop-holds c = search pass-start
 
 kin-at-requires : tie.Need-kin-at-requires Inv-loop μ-loop
 kin-at-requires c κs = search needs

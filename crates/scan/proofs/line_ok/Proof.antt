@@ -2,10 +2,10 @@
 use borrow.Author.Needs.{needs}
 use Prim.Native.Nat.{_-_}
 use Rattle.rules.specs.Code.{memIn}
-use Rattle.scan.specs.Asks.{passed, failed}
 use Rattle.scan.specs.Lines.{Lining, line-start, line-more, line-long, line-bad, line-tail, line-yes}
 use Rattle.scan.proofs.line_ok.Statement.{statement}
 use Rattle.scan.proofs.line_ok.Tie as tie
+use Rattle.rules.specs.Loop.{passed, failed}
 
 abbrev Inv-loop : tie.InvT-loop
 Inv-loop s z tag head tail most link₀ last₀ n₀ link last n = Lining (z .processes) (memIn z s) tag most head link last n

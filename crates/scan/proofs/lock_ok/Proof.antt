@@ -1,9 +1,9 @@
 -- `scan::lock_ok` meets its contract, by each way out.
-use Rattle.scan.specs.Asks.{passed, failed}
 use Rattle.scan.specs.Queues.{lock-unheld, lock-walked}
 use borrow.Author.Needs.{needs}
 use Rattle.scan.proofs.lock_ok.Statement.{statement}
 use Rattle.scan.proofs.lock_ok.Tie as tie
+use Rattle.rules.specs.Loop.{passed, failed}
 
 held-ok-requires : tie.Need-held-ok-requires
 held-ok-requires c κs = search needs

@@ -1,9 +1,9 @@
 -- `scan::processes_ok` meets its contract, by each way out.
-use Rattle.scan.specs.Asks.{passed, failed}
 use Rattle.scan.specs.All.{queues-of, processes-yes}
 use borrow.Author.Needs.{needs}
 use Rattle.scan.proofs.processes_ok.Statement.{statement}
 use Rattle.scan.proofs.processes_ok.Tie as tie
+use Rattle.rules.specs.Loop.{passed, failed}
 
 header-ok-requires : tie.Need-header-ok-requires
 header-ok-requires c κs = search needs

@@ -1,9 +1,9 @@
 -- `scan::queues_ok` meets its contract, by each way out.
-use Rattle.scan.specs.Asks.{passed, failed}
 use Rattle.scan.specs.All.{queues-run, queues-ready, queues-locks, queues-yes}
 use borrow.Author.Needs.{needs}
 use Rattle.scan.proofs.queues_ok.Statement.{statement}
 use Rattle.scan.proofs.queues_ok.Tie as tie
+use Rattle.rules.specs.Loop.{passed, failed}
 
 count-states-requires : tie.Need-count-states-requires
 count-states-requires c κs = search needs

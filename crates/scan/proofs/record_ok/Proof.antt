@@ -1,10 +1,10 @@
 -- `scan::record_ok` meets its contract, by each way out.
 use native.Mathlib.Omega.{arith}
-use Rattle.scan.specs.Asks.{passed, failed}
 use Rattle.scan.specs.Records.{record-used}
 use borrow.Author.Needs.{needs}
 use Rattle.scan.proofs.record_ok.Statement.{statement}
 use Rattle.scan.proofs.record_ok.Tie as tie
+use Rattle.rules.specs.Loop.{passed, failed}
 
 get64-requires : tie.Need-get64-requires
 get64-requires c κs = search needs

@@ -1,16 +1,17 @@
 -- `scan::records_ok` meets its contract: the records below i are right.
+use mathlib.Core.Path.{refl}
 use borrow.Author.Needs.{needs}
 use native.Mathlib.Omega.{arith}
 use Prim.Native.Nat.{_-_}
 use Rattle.state.specs.Places.{sizesIn}
 use Rattle.rules.specs.Code.{memIn}
 use Rattle.rules.specs.Facts.{RecordOk}
-use Rattle.scan.specs.Asks.{Passing, pass-start, pass-more, pass-end, passed, failed}
 use Rattle.scan.proofs.records_ok.Statement.{statement}
 use Rattle.scan.proofs.records_ok.Tie as tie
+use Rattle.rules.specs.Loop.{Passing, pass-start, pass-more, pass-end, passed, failed}
 
 abbrev Inv-loop : tie.InvT-loop
-Inv-loop s z n i₀ i = Passing (λ j. RecordOk (sizesIn z) (memIn z s) j) i
+Inv-loop s z n i₀ i = Passing (λ j. RecordOk (sizesIn z) (memIn z s) j) n i
 
 abbrev μ-loop : tie.MeasureT-loop
 μ-loop s z n i₀ i = n - i
@@ -31,7 +32,9 @@ loop-less : tie.Need-loop-less Inv-loop μ-loop
 loop-less c = search needs
 
 loop-again : tie.Need-loop-again Inv-loop μ-loop
-loop-again c = pass-more (c .before .before .before .loop .inv) (passed (c .before .record-ok .result) (c .before .record-ok .ensures) (c .if1 .left))
+loop-again c =
+    pass-more (c .before .before .before .loop .inv) (c .before .before .loop-test .taken)
+    (passed (c .before .record-ok .result) (c .before .record-ok .ensures) (c .if1 .left)) refl
 
 returns-2 : tie.Need-returns-2 Inv-loop μ-loop
 returns-2 c = pass-end (c .before .loop .inv) (c .loop-test .left)

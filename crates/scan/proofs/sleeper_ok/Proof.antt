@@ -1,10 +1,10 @@
 -- `scan::sleeper_ok` meets its contract, by each way out.
 use native.Mathlib.Omega.{arith}
-use Rattle.scan.specs.Asks.{passed, failed}
 use Rattle.scan.specs.Records.{rendez-yes, rendez-no}
 use borrow.Author.Needs.{needs}
 use Rattle.scan.proofs.sleeper_ok.Statement.{statement}
 use Rattle.scan.proofs.sleeper_ok.Tie as tie
+use Rattle.rules.specs.Loop.{passed, failed}
 
 sleeper-of-requires : tie.Need-sleeper-of-requires
 sleeper-of-requires c κs = search needs

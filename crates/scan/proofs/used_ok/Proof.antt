@@ -1,9 +1,9 @@
 -- `scan::used_ok` meets its contract, by each way out.
 use native.Mathlib.Omega.{arith}
-use Rattle.scan.specs.Asks.{passed, failed}
 use borrow.Author.Needs.{needs}
 use Rattle.scan.proofs.used_ok.Statement.{statement}
 use Rattle.scan.proofs.used_ok.Tie as tie
+use Rattle.rules.specs.Loop.{passed, failed}
 
 get8-requires : tie.Need-get8-requires
 get8-requires c κs = search needs

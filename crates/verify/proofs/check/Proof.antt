@@ -1,12 +1,12 @@
 -- `verify::check` meets its contract: by each way out.
 use borrow.Author.Needs.{needs}
-use Rattle.scan.specs.Asks.{passed, failed}
 use native.Mathlib.Omega.{arith}
 use Rattle.exact.specs.Exact.{decides-well}
 use Rattle.state.specs.Places.{sizesIn}
 use Rattle.verify.specs.Ways.{well-long, sizes-wrong, too-short}
 use Rattle.verify.proofs.check.Statement.{statement}
 use Rattle.verify.proofs.check.Tie as tie
+use Rattle.rules.specs.Loop.{passed, failed}
 
 returns : tie.Need-returns
 returns c = λ w. omega (arith, well-long w)

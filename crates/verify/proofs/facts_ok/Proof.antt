@@ -1,10 +1,10 @@
 -- `verify::facts_ok` meets its contract: by each test in turn.
 use borrow.Author.Needs.{needs}
-use Rattle.scan.specs.Asks.{passed, failed, decides-as}
 use Rattle.walks.specs.Queues.{queue-facts}
 use Rattle.verify.specs.Ways.{facts-processes, facts-kin, facts-all, aged}
 use Rattle.verify.proofs.facts_ok.Statement.{statement}
 use Rattle.verify.proofs.facts_ok.Tie as tie
+use Rattle.rules.specs.Loop.{passed, failed, decides-as}
 
 processes-ok-requires : tie.Need-processes-ok-requires
 processes-ok-requires c κs = search needs

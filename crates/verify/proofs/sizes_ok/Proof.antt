@@ -1,9 +1,9 @@
 -- `verify::sizes_ok` meets its contract: by each test in turn.
 use borrow.Author.Needs.{needs}
-use Rattle.scan.specs.Asks.{passed, failed}
 use Rattle.verify.specs.Ways.{sizes-last}
 use Rattle.verify.proofs.sizes_ok.Statement.{statement}
 use Rattle.verify.proofs.sizes_ok.Tie as tie
+use Rattle.rules.specs.Loop.{passed, failed}
 
 fits-requires : tie.Need-fits-requires
 fits-requires c κs = search needs

@@ -1,9 +1,9 @@
 -- `verify::state_ok` meets its contract: by each test in turn.
 use borrow.Author.Needs.{needs}
-use Rattle.scan.specs.Asks.{passed, failed, decides-as}
 use Rattle.exact.specs.Exact.{whole-checked}
 use Rattle.verify.proofs.state_ok.Statement.{statement}
 use Rattle.verify.proofs.state_ok.Tie as tie
+use Rattle.rules.specs.Loop.{passed, failed, decides-as}
 
 marks-ok-requires : tie.Need-marks-ok-requires
 marks-ok-requires c κs = search needs

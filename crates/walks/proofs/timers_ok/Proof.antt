@@ -3,13 +3,14 @@ use Prim.Native.Nat.{_+_, _-_}
 use Rattle.state.specs.Places.{sizesIn}
 use Rattle.rules.specs.Code.{memIn}
 use Rattle.rules.specs.Facts.{TimerOk}
-use Rattle.walks.specs.Loops.{AllBelow, all-start, all-more, all-yes, all-no}
+use Rattle.walks.specs.Loops.{all-more, all-no}
+use Rattle.rules.specs.Loop.{Passing, pass-start, pass-end}
 use borrow.Author.Needs.{needs}
 use Rattle.walks.proofs.timers_ok.Statement.{statement}
 use Rattle.walks.proofs.timers_ok.Tie as tie
 
 abbrev Inv-loop : tie.InvT-loop
-Inv-loop s z end t₀ t = AllBelow (TimerOk (sizesIn z) (memIn z s)) (z .timers + z .processes) t
+Inv-loop s z end t₀ t = Passing (TimerOk (sizesIn z) (memIn z s)) (z .timers + z .processes) t
 
 abbrev μ-loop : tie.MeasureT-loop
 μ-loop s z end t₀ t = z .timers + z .processes - t
@@ -18,7 +19,7 @@ add-end : tie.Need-add-end Inv-loop μ-loop
 add-end c = search needs
 
 loop-holds : tie.Need-loop-holds Inv-loop μ-loop
-loop-holds c = search all-start
+loop-holds c = search pass-start
 
 timer-ok-requires : tie.Need-timer-ok-requires Inv-loop μ-loop
 timer-ok-requires c κs = search needs
@@ -36,7 +37,7 @@ returns : tie.Need-returns Inv-loop μ-loop
 returns c = all-no (c .before .before .before .loop .inv) (c .before .before .loop-test .taken) (c .if1 .left) (c .before .timer-ok .ensures)
 
 returns-2 : tie.Need-returns-2 Inv-loop μ-loop
-returns-2 c = all-yes (c .before .loop .inv) (c .loop-test .left)
+returns-2 c = pass-end (c .before .loop .inv) (c .loop-test .left)
 
 pub timers-ok-spec : {M : Type 1} → statement M
 timers-ok-spec =
