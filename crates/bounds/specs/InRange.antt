@@ -90,66 +90,66 @@ upto-at P (suc n) u f h = go (upto-at P n (u .0) f) (ltb f n) refl
     go r true e = r (ltb-true f n e)
     go r false e = let q : n ≡ f = omega (arith, ltb-false f n e) in subst P q (u .1)
 
-abbrev Good : Sizes → List ℕ → ℕ → Type 0
-Good z s f = (i : ℕ) → memIn z s f i ≤ mostOf (sizesIn z) f
+abbrev FieldFits : Sizes → List ℕ → ℕ → Type 0
+FieldFits z s f = (i : ℕ) → memIn z s f i ≤ mostOf (sizesIn z) f
 
 -- The table, field by field.
-each-field : (z : Sizes) (s : List ℕ) → Bytes s → Groups z s → Upto (Good z s) 53
+each-field : (z : Sizes) (s : List ℕ) → Bytes s → Groups z s → Upto (FieldFits z s) 53
 each-field z s b h =
-    let t0 : Upto (Good z s) 0 = tt in
-    let t1 : Upto (Good z s) 1 = (t0, whole z s b (slot 0 0 8) refl) in
-    let t2 : Upto (Good z s) 2 = (t1, whole z s b (slot 0 8 4) refl) in
-    let t3 : Upto (Good z s) 3 = (t2, whole z s b (slot 0 12 4) refl) in
-    let t4 : Upto (Good z s) 4 = (t3, whole z s b (slot 0 16 2) refl) in
-    let t5 : Upto (Good z s) 5 = (t4, whole z s b (slot 0 18 2) refl) in
-    let t6 : Upto (Good z s) 6 = (t5, whole z s b (slot 0 20 2) refl) in
-    let t7 : Upto (Good z s) 7 = (t6, whole z s b (slot 0 22 2) refl) in
-    let t8 : Upto (Good z s) 8 = (t7, whole z s b (slot 0 24 2) refl) in
-    let t9 : Upto (Good z s) 9 = (t8, past-end z s _ (h .heads .0) refl) in
-    let t10 : Upto (Good z s) 10 = (t9, past-end z s _ (h .heads .1 .0) refl) in
-    let t11 : Upto (Good z s) 11 = (t10, past-end z s _ (h .heads .1 .1 .0) refl) in
-    let t12 : Upto (Good z s) 12 = (t11, whole z s b (slot 0 32 2) refl) in
-    let t13 : Upto (Good z s) 13 = (t12, past-end z s _ (h .heads .1 .1 .1 .0) refl) in
-    let t14 : Upto (Good z s) 14 = (t13, past-end z s _ (h .ends .0) refl) in
-    let t15 : Upto (Good z s) 15 = (t14, past-end z s _ (h .ends .1 .0) refl) in
-    let t16 : Upto (Good z s) 16 = (t15, whole z s b (slot 0 40 8) refl) in
-    let t17 : Upto (Good z s) 17 = (t16, whole z s b (slot 0 48 8) refl) in
-    let t18 : Upto (Good z s) 18 = (t17, whole z s b (slot 0 56 8) refl) in
-    let t19 : Upto (Good z s) 19 = (t18, whole z s b (slot 0 64 8) refl) in
-    let t20 : Upto (Good z s) 20 = (t19, whole z s b (slot 0 72 8) refl) in
-    let t21 : Upto (Good z s) 21 = (t20, whole z s b (slot 1 0 8) refl) in
-    let t22 : Upto (Good z s) 22 = (t21, whole z s b (slot 1 8 8) refl) in
-    let t23 : Upto (Good z s) 23 = (t22, whole z s b (slot 1 16 8) refl) in
-    let t24 : Upto (Good z s) 24 = (t23, past-end z s _ (h .links .0) refl) in
-    let t25 : Upto (Good z s) 25 = (t24, past-end z s _ (h .links .1 .0) refl) in
-    let t26 : Upto (Good z s) 26 = (t25, past-end z s _ (h .links .1 .1 .0) refl) in
-    let t27 : Upto (Good z s) 27 = (t26, past-end z s _ (h .links .1 .1 .1 .0) refl) in
-    let t28 : Upto (Good z s) 28 = (t27, whole z s b (slot 1 32 2) refl) in
-    let t29 : Upto (Good z s) 29 = (t28, past-end z s _ (h .states .0) refl) in
-    let t30 : Upto (Good z s) 30 = (t29, past-end z s _ (h .states .1 .0) refl) in
-    let t31 : Upto (Good z s) 31 = (t30, past-end z s _ (h .states .1 .1 .0) refl) in
-    let t32 : Upto (Good z s) 32 = (t31, past-end z s _ (h .states .1 .1 .1 .0) refl) in
-    let t33 : Upto (Good z s) 33 = (t32, whole z s b (slot 1 39 1) refl) in
-    let t34 : Upto (Good z s) 34 = (t33, whole z s b (slot 1 40 2) refl) in
-    let t35 : Upto (Good z s) 35 = (t34, whole z s b (slot 2 0 1) refl) in
-    let t36 : Upto (Good z s) 36 = (t35, past-end z s _ (h .locks .0) refl) in
-    let t37 : Upto (Good z s) 37 = (t36, past-end z s _ (h .locks .1 .0) refl) in
-    let t38 : Upto (Good z s) 38 = (t37, past-end z s _ (h .locks .1 .1 .0) refl) in
-    let t39 : Upto (Good z s) 39 = (t38, past-end z s _ (h .locks .1 .1 .1 .0) refl) in
-    let t40 : Upto (Good z s) 40 = (t39, whole z s b (slot 5 0 8) refl) in
-    let t41 : Upto (Good z s) 41 = (t40, past-end z s _ (h .timers .0) refl) in
-    let t42 : Upto (Good z s) 42 = (t41, past-end z s _ (h .timers .1 .0) refl) in
-    let t43 : Upto (Good z s) 43 = (t42, past-end z s _ (h .timers .1 .1 .0) refl) in
-    let t44 : Upto (Good z s) 44 = (t43, past-end z s _ (h .timers .1 .1 .1 .0) refl) in
-    let t45 : Upto (Good z s) 45 = (t44, whole z s b (slot 6 0 8) refl) in
-    let t46 : Upto (Good z s) 46 = (t45, past-end z s _ (h .cells .0) refl) in
-    let t47 : Upto (Good z s) 47 = (t46, past-end z s _ (h .cells .1 .0) refl) in
-    let t48 : Upto (Good z s) 48 = (t47, past-end z s _ (h .cells .1 .1 .0) refl) in
-    let t49 : Upto (Good z s) 49 = (t48, whole z s b (slot 7 0 1) refl) in
-    let t50 : Upto (Good z s) 50 = (t49, past-end z s _ (h .cells .1 .1 .1 .0) refl) in
-    let t51 : Upto (Good z s) 51 = (t50, whole z s b (slot 9 0 8) refl) in
-    let t52 : Upto (Good z s) 52 = (t51, whole z s b (slot 10 0 8) refl) in
-    let t53 : Upto (Good z s) 53 = (t52, whole z s b (slot 11 0 8) refl) in
+    let t0 : Upto (FieldFits z s) 0 = tt in
+    let t1 : Upto (FieldFits z s) 1 = (t0, whole z s b (slot 0 0 8) refl) in
+    let t2 : Upto (FieldFits z s) 2 = (t1, whole z s b (slot 0 8 4) refl) in
+    let t3 : Upto (FieldFits z s) 3 = (t2, whole z s b (slot 0 12 4) refl) in
+    let t4 : Upto (FieldFits z s) 4 = (t3, whole z s b (slot 0 16 2) refl) in
+    let t5 : Upto (FieldFits z s) 5 = (t4, whole z s b (slot 0 18 2) refl) in
+    let t6 : Upto (FieldFits z s) 6 = (t5, whole z s b (slot 0 20 2) refl) in
+    let t7 : Upto (FieldFits z s) 7 = (t6, whole z s b (slot 0 22 2) refl) in
+    let t8 : Upto (FieldFits z s) 8 = (t7, whole z s b (slot 0 24 2) refl) in
+    let t9 : Upto (FieldFits z s) 9 = (t8, past-end z s _ (h .heads .0) refl) in
+    let t10 : Upto (FieldFits z s) 10 = (t9, past-end z s _ (h .heads .1 .0) refl) in
+    let t11 : Upto (FieldFits z s) 11 = (t10, past-end z s _ (h .heads .1 .1 .0) refl) in
+    let t12 : Upto (FieldFits z s) 12 = (t11, whole z s b (slot 0 32 2) refl) in
+    let t13 : Upto (FieldFits z s) 13 = (t12, past-end z s _ (h .heads .1 .1 .1 .0) refl) in
+    let t14 : Upto (FieldFits z s) 14 = (t13, past-end z s _ (h .ends .0) refl) in
+    let t15 : Upto (FieldFits z s) 15 = (t14, past-end z s _ (h .ends .1 .0) refl) in
+    let t16 : Upto (FieldFits z s) 16 = (t15, whole z s b (slot 0 40 8) refl) in
+    let t17 : Upto (FieldFits z s) 17 = (t16, whole z s b (slot 0 48 8) refl) in
+    let t18 : Upto (FieldFits z s) 18 = (t17, whole z s b (slot 0 56 8) refl) in
+    let t19 : Upto (FieldFits z s) 19 = (t18, whole z s b (slot 0 64 8) refl) in
+    let t20 : Upto (FieldFits z s) 20 = (t19, whole z s b (slot 0 72 8) refl) in
+    let t21 : Upto (FieldFits z s) 21 = (t20, whole z s b (slot 1 0 8) refl) in
+    let t22 : Upto (FieldFits z s) 22 = (t21, whole z s b (slot 1 8 8) refl) in
+    let t23 : Upto (FieldFits z s) 23 = (t22, whole z s b (slot 1 16 8) refl) in
+    let t24 : Upto (FieldFits z s) 24 = (t23, past-end z s _ (h .links .0) refl) in
+    let t25 : Upto (FieldFits z s) 25 = (t24, past-end z s _ (h .links .1 .0) refl) in
+    let t26 : Upto (FieldFits z s) 26 = (t25, past-end z s _ (h .links .1 .1 .0) refl) in
+    let t27 : Upto (FieldFits z s) 27 = (t26, past-end z s _ (h .links .1 .1 .1 .0) refl) in
+    let t28 : Upto (FieldFits z s) 28 = (t27, whole z s b (slot 1 32 2) refl) in
+    let t29 : Upto (FieldFits z s) 29 = (t28, past-end z s _ (h .states .0) refl) in
+    let t30 : Upto (FieldFits z s) 30 = (t29, past-end z s _ (h .states .1 .0) refl) in
+    let t31 : Upto (FieldFits z s) 31 = (t30, past-end z s _ (h .states .1 .1 .0) refl) in
+    let t32 : Upto (FieldFits z s) 32 = (t31, past-end z s _ (h .states .1 .1 .1 .0) refl) in
+    let t33 : Upto (FieldFits z s) 33 = (t32, whole z s b (slot 1 39 1) refl) in
+    let t34 : Upto (FieldFits z s) 34 = (t33, whole z s b (slot 1 40 2) refl) in
+    let t35 : Upto (FieldFits z s) 35 = (t34, whole z s b (slot 2 0 1) refl) in
+    let t36 : Upto (FieldFits z s) 36 = (t35, past-end z s _ (h .locks .0) refl) in
+    let t37 : Upto (FieldFits z s) 37 = (t36, past-end z s _ (h .locks .1 .0) refl) in
+    let t38 : Upto (FieldFits z s) 38 = (t37, past-end z s _ (h .locks .1 .1 .0) refl) in
+    let t39 : Upto (FieldFits z s) 39 = (t38, past-end z s _ (h .locks .1 .1 .1 .0) refl) in
+    let t40 : Upto (FieldFits z s) 40 = (t39, whole z s b (slot 5 0 8) refl) in
+    let t41 : Upto (FieldFits z s) 41 = (t40, past-end z s _ (h .timers .0) refl) in
+    let t42 : Upto (FieldFits z s) 42 = (t41, past-end z s _ (h .timers .1 .0) refl) in
+    let t43 : Upto (FieldFits z s) 43 = (t42, past-end z s _ (h .timers .1 .1 .0) refl) in
+    let t44 : Upto (FieldFits z s) 44 = (t43, past-end z s _ (h .timers .1 .1 .1 .0) refl) in
+    let t45 : Upto (FieldFits z s) 45 = (t44, whole z s b (slot 6 0 8) refl) in
+    let t46 : Upto (FieldFits z s) 46 = (t45, past-end z s _ (h .cells .0) refl) in
+    let t47 : Upto (FieldFits z s) 47 = (t46, past-end z s _ (h .cells .1 .0) refl) in
+    let t48 : Upto (FieldFits z s) 48 = (t47, past-end z s _ (h .cells .1 .1 .0) refl) in
+    let t49 : Upto (FieldFits z s) 49 = (t48, whole z s b (slot 7 0 1) refl) in
+    let t50 : Upto (FieldFits z s) 50 = (t49, past-end z s _ (h .cells .1 .1 .1 .0) refl) in
+    let t51 : Upto (FieldFits z s) 51 = (t50, whole z s b (slot 9 0 8) refl) in
+    let t52 : Upto (FieldFits z s) 52 = (t51, whole z s b (slot 10 0 8) refl) in
+    let t53 : Upto (FieldFits z s) 53 = (t52, whole z s b (slot 11 0 8) refl) in
     t53
 
 pub state-of : {z : Sizes} {s : List ℕ} → Long z s → Bytes s → Groups z s → StateIn z s
@@ -157,7 +157,7 @@ unfolding Ranged
 state-of {z} {s} l b h = record { long = l .long; ranged = λ f i. go f i (ltb f 53) refl }
   where
     go : (f i : ℕ) (t : Bool) → ltb f 53 ≡ t → memIn z s f i ≤ mostOf (sizesIn z) f
-    go f i true e = upto-at (Good z s) 53 (each-field z s b h) f (ltb-true f 53 e) i
+    go f i true e = upto-at (FieldFits z s) 53 (each-field z s b h) f (ltb-true f 53 e) i
     go f i false e = omega (arith, mem-past layout1 (counts (sizesIn z)) s f i (ltb-false f 53 e))
 
 -- Where a group is not within, the state is not in range.

@@ -29,3 +29,4 @@ pub mod Entering
 pub mod Bound
 pub mod Proof
 pub mod Tight
+pub mod Reached

@@ -18,3 +18,4 @@ pub mod Kept
 pub mod Refused
 pub mod Never
 pub mod Live
+pub mod Total

@@ -16,7 +16,7 @@ use Rattle.machine.specs.Listing.{openDefinitions}
 use Rattle.machine.specs.Good.{SizesInRange, InRange, Good, places, children}
 use Rattle.kept.specs.Fresh.{good-fresh}
 
--- Two processes, one cell: the smallest machine on which all of them arise. At 1,000,000 Hz.
+-- Three processes and one cell, at 1,000,000 Hz: a small machine on which all of them arise.
 unfoldable pub small : Sizes
 small = record { processes = 3; rendez = 1; locks = 1; timers = 2; cells = 1; hz = 1000000 }
 

@@ -87,7 +87,7 @@ answers due m = tt
 answers (exit BYTES) m = tt
 answers wait m = answers-if (isEmpty (process m (current m) .exits)) _ _ tt tt
 
--- A step is refused with n exactly where the table says n.
+-- A step that is refused with n is one where the table says n. (`Total.antt` has the other direction.)
 pub refused-by : (m : Machine) (s : Step) (n : ℕ) → stepOf m s .reply ≡ refused n → refusal m s ≡ some n
 unfolding stepOf refusing
 refused-by m s n e = go (refusal m s) refl

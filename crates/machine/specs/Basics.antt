@@ -8,6 +8,7 @@ use Prim.Native.String.{String, [] as empty, _∷_ as _then_}
 use lib.Dec.{eqb}
 
 infix 5 if_then_else_
+-- One of two, by a test.
 abbrev pub if_then_else_ : {A : Type 0} → Bool → A → A → A
 if true then a else b = a
 if false then a else b = b

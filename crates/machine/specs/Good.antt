@@ -76,6 +76,7 @@ pub record InRange (m : Machine) : Type 0 where
   pub conditions : length (m .conditions) ≡ 256
   pub each : Each (ProcessInRange (m .sizes)) (m .processes)
   pub settings : Each (SettingInRange (m .sizes)) (m .settings)
+  -- timer 0 is periodic, 10 ms
   pub hzclock : setting m 0 .period ≡ countsOf (m .sizes .hz) 0 10000000
   pub queued : Each (QueuedInRange (m .sizes)) (m .queued)
   pub nextPid : (1 ≤ m .nextPid) × (m .nextPid ≤ 2 ^ 64 - 1)
@@ -142,6 +143,7 @@ pub record Good (m : Machine) : Type 0 where
   pub callsFit : CallsFit m
   -- queued timers stand by deadline, each once
   pub byDeadline : ByDeadline (m .queued)
+  -- (each queue's links run from head to tail once: no timer is queued twice)
   pub queuedOnce : (t : ℕ) → count t (map (λ (x : Queued). x .timer) (m .queued)) ≤ 1
   -- nchild counts the living children
   pub nchild : (i : ℕ) → Lives m i → process m i .nchild ≡ children m (pidOf m i)
@@ -154,6 +156,7 @@ pub record Good (m : Machine) : Type 0 where
   pub parent : (i : ℕ) → Lives m i → process m i .parent < pidOf m i
   -- a process's timer is queued only while its `tsleep` has not returned
   pub tsleeping : (i : ℕ) → 1 ≤ count (ownTimer i m) (map (λ (x : Queued). x .timer) (m .queued)) → IsTsleep (process m i .resume)
+  -- (qwaitr is held exactly while its process has a `wait` not returned: both are that `resume` is `inWait`)
   -- a lock with waiters is held
   pub held : (q : ℕ) → lock m q .held ≡ false → lock m q .waiters ≡ []
   -- ticks are at most the last NOW, and below timer 0's deadline where it is queued, and quantum_end is at most ticks + 10

@@ -22,9 +22,11 @@ pub record Deed : Type 0 where
   pub dispatched : List ℕ
   pub fired : ℕ
 
+-- A deed, by its parts.
 abbrev deed : List ℕ → List ℕ → ℕ → Deed
 deed r d f = record { readied = r; dispatched = d; fired = f }
 
+-- An example is about one of these.
 pub data Example : Type 0 where
   -- after steps on a fresh machine of these sizes: the record numbers of the run queue, and the cells in use
   runQueueIs : Sizes → List Body → List ℕ → Example
@@ -46,6 +48,7 @@ unfoldable pub after : Machine → List Body → Machine
 after m [] = m
 after m (b ∷ bs) = after (stepOf m (plain b) .after) bs
 
+-- What an outcome tells of the step.
 unfoldable pub did : Outcome → Deed
 did o = record { readied = o .readied; dispatched = o .dispatched; fired = o .fired }
 
@@ -58,6 +61,7 @@ Holds (asleepIs z bs n) = asleep (after (fresh z) bs) ≡ n
 Holds (lastDid z bs b d) = did (stepOf (after (fresh z) bs) (plain b)) ≡ d
 Holds (replyIs m b buffer r) = outcomeOf m (some (plain b)) buffer .reply ≡ r
 
+-- What a list of examples says.
 abbrev pub AllHold : List Example → Type 0
 AllHold [] = Unit {0}
 AllHold (e ∷ es) = Holds e × AllHold es
@@ -70,6 +74,7 @@ small = record { processes = 4; rendez = 2; locks = 2; timers = 2; cells = 3; hz
 unfoldable pub family : List Body
 family = start 0 ∷ sched ∷ rfork 16 0 ∷ rfork 16 0 ∷ []
 
+-- The table.
 unfoldable pub unlisted : List Example
 unfolding small family
 unlisted =

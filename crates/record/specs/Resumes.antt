@@ -1,9 +1,9 @@
 -- The cases of `resume`, their numbers, and what they stand for.
-use mathlib.Core.Path.{_≡_}
+use mathlib.Core.Path.{_≡_, refl}
 use Prim.Native.Nat.{ℕ}
 use borrow.Author.Tests.{ne-eqb}
 use Rattle.machine.specs.Machine as machine
-use Rattle.state.specs.Abs.{resumeOf}
+use Rattle.state.specs.Abs.{resumeNumber, resumeOf}
 use Rattle.record.specs.declared.Resume.{Resume}
 use Rattle.record.specs.declared.Resume.the-variants.{Nothing, Sleep, Tsleep, Qlock, Wait}
 
@@ -61,3 +61,20 @@ is-wait e = record { means = rw e }
 pub is-nothing : {k o c : ℕ} → (k ≡ 1 → ⊥) → (k ≡ 2 → ⊥) → (k ≡ 3 → ⊥) → (k ≡ 4 → ⊥) → resumeIs k o c Nothing
 unfolding resumeOf
 is-nothing {k} a b c d = record { means = rw (ne-eqb k 1 a, ne-eqb k 2 b, ne-eqb k 3 c, ne-eqb k 4 d) }
+
+-- The numbers, the object and the condition of a case say that case again, and are those that the state's layout gives it.
+pub says-again : (r : Resume) → resumeOf (numberOf r) (objectOf r) (conditionOf r) ≡ meaning r
+unfolding resumeOf
+says-again Nothing = refl
+says-again (Sleep r c) = refl
+says-again (Tsleep r c) = refl
+says-again (Qlock q) = refl
+says-again Wait = refl
+
+pub same-number : (r : Resume) → numberOf r ≡ resumeNumber (meaning r)
+unfolding resumeNumber
+same-number Nothing = refl
+same-number (Sleep r c) = refl
+same-number (Tsleep r c) = refl
+same-number (Qlock q) = refl
+same-number Wait = refl
