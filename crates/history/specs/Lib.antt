@@ -28,5 +28,6 @@ pub mod Placed
 pub mod Entering
 pub mod Bound
 pub mod Proof
+pub mod Stays
 pub mod Tight
 pub mod Reached

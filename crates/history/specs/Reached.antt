@@ -1,5 +1,5 @@
 -- Every machine that a list of inputs reaches from a fresh one keeps the rules; so 14 is never met, and 13 never where C ≥ 128 × P.
-use mathlib.Core.Path.{_≡_, refl, subst}
+use mathlib.Core.Path.{_≡_, refl, _∙_}
 use mathlib.Core.Bool.{Bool, true, false}
 use mathlib.Core.List.{List, [], _∷_}
 use mathlib.Core.Option.{Option, none, some}
@@ -9,12 +9,13 @@ use lib.Dec.{ltb}
 use Rattle.machine.specs.Basics.{if_then_else_}
 use Rattle.machine.specs.Machine.{Machine, Sizes, fresh}
 use Rattle.machine.specs.Step.{Step}
-use Rattle.machine.specs.Outcome.{Reply, refused, Outcome}
+use Rattle.machine.specs.Outcome.{refused}
 use Rattle.machine.specs.StepOf.{stepOf, outcomeOf, refusing}
 use Rattle.machine.specs.Good.{SizesInRange, Good}
 use Rattle.kept.specs.Fresh.{good-fresh}
 use Rattle.kept.specs.Kept.{good-outcome}
 use Rattle.kept.specs.Never.{never-13, never-14}
+use Rattle.kept.specs.SizesKept.{sizes-outcome}
 use Rattle.history.specs.History.{Input, gives, machineAfter}
 
 -- Whatever is handed in, a Good machine stays Good all along the list.
@@ -42,15 +43,24 @@ never-14-after z h xs x e =
     let r : (s : Step) × (stepOf m s .reply ≡ refused 14) = by-step m (x .step) (x .buffer) 14 (λ q. omega arith) e in
     never-14 m (r .0) (good-after z h xs) (r .1)
 
--- 13 never where C ≥ 128 × P, the sizes being those of the machine that is reached.
+-- The sizes are those that the machine was made with.
+pub sizes-along : (m : Machine) (xs : List Input) → machineAfter m xs .sizes ≡ m .sizes
+sizes-along m [] = refl
+sizes-along m (x ∷ xs) = sizes-along (gives m x .after) xs ∙ sizes-outcome m (x .step) (x .buffer)
+
+pub sizes-after : (z : Sizes) (xs : List Input) → machineAfter (fresh z) xs .sizes ≡ z
+unfolding fresh
+sizes-after z xs = sizes-along (fresh z) xs
+
+-- 13 never where C ≥ 128 × P.
 pub never-13-after
     : (z : Sizes)
     → SizesInRange z
+    → 128 * z .processes ≤ z .cells
     → (xs : List Input) (x : Input)
-    → 128 * machineAfter (fresh z) xs .sizes .processes ≤ machineAfter (fresh z) xs .sizes .cells
     → gives (machineAfter (fresh z) xs) x .reply ≡ refused 13
     → ⊥
-never-13-after z h xs x l e =
+never-13-after z h l xs x e =
     let m : Machine = machineAfter (fresh z) xs in
     let r : (s : Step) × (stepOf m s .reply ≡ refused 13) = by-step m (x .step) (x .buffer) 13 (λ q. omega arith) e in
-    never-13 m (r .0) (good-after z h xs) l (r .1)
+    never-13 m (r .0) (good-after z h xs) (rw (sizes-after z xs) l) (r .1)

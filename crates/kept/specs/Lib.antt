@@ -19,3 +19,4 @@ pub mod Refused
 pub mod Never
 pub mod Live
 pub mod Total
+pub mod SizesKept
