@@ -1,4 +1,5 @@
 // Whether the records agree on who is whose parent.
+use state::Count;
 use state::Index;
 use state::Sizes;
 ghost use Prim.Native.Nat.{_+_, _<_, _≤_};
@@ -74,7 +75,7 @@ fn kin_link(s: &[u8], z: Sizes, i: Index) -> Index
 }
 
 // One more for the record that `link` names.
-fn bump(children: &mut [u16], link: Index)
+fn bump(children: &mut [Count], link: Index)
     requires { ⌜ BumpAsks (now children) link ⌝ }
     ensures { λ _. ⌜ Bumped (now (children .entry)) link (now (children .exit)) ⌝ }
 {
@@ -134,7 +135,7 @@ fn living_ok(s: &[u8], z: Sizes) -> bool
 }
 
 // Counts the children of each record.
-fn count_children(s: &[u8], z: Sizes, children: &mut [u16])
+fn count_children(s: &[u8], z: Sizes, children: &mut [Count])
     requires { ⌜ CountAsks z (now s) (now children) ⌝ }
     ensures { λ _. ⌜ Counted (memIn z (now (s .entry))) (z .processes) (now (children .exit)) ⌝ }
 {
@@ -148,7 +149,7 @@ fn count_children(s: &[u8], z: Sizes, children: &mut [u16])
 }
 
 // Has record `j`, if it is used, as many children as it says?
-fn child_ok(s: &[u8], z: Sizes, children: &[u16], j: Index) -> bool
+fn child_ok(s: &[u8], z: Sizes, children: &[Count], j: Index) -> bool
     requires { ⌜ CountedAsks z (now s) (now children) × (j < z .processes) ⌝ }
     ensures { λ r. ⌜ Answers (Children (sizesIn z) (memIn z (now (s .entry))) j) r ⌝ }
 {
@@ -161,7 +162,7 @@ fn child_ok(s: &[u8], z: Sizes, children: &[u16], j: Index) -> bool
 }
 
 // Has each used record as many children as it says?
-fn children_ok(s: &[u8], z: Sizes, children: &[u16]) -> bool
+fn children_ok(s: &[u8], z: Sizes, children: &[Count]) -> bool
     requires { ⌜ CountedAsks z (now s) (now children) ⌝ }
     ensures { λ r. ⌜ Answers (AllBelow (Children (sizesIn z) (memIn z (now (s .entry)))) (z .processes)) r ⌝ }
 {

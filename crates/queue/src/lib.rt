@@ -1,4 +1,5 @@
 // Queues of processes, first in first out, linked through the field `next` of their records: the run queue, and the waiters of each lock.
+use state::Count;
 use state::Index;
 use state::Sizes;
 ghost use Rattle.queue.specs.List.{IsEmpty};
@@ -10,7 +11,7 @@ ghost use Rattle.queue.specs.Pop.{PopAsks, PopDone, popped};
 pub struct RunQueue {
     pub head: Index,
     pub tail: Index,
-    pub asleep: u16,
+    pub asleep: Count,
 }
 
 // What `pop` gives: the link to the process taken off, 0 for none, and the queue after.

@@ -1,4 +1,5 @@
 // A process record by value: loaded whole from the state, and stored whole.
+use state::Count;
 use state::Index;
 use state::Sizes;
 ghost use mathlib.Core.Path.{_≡_};
@@ -27,7 +28,7 @@ pub struct Proc {
     pub older: Index,
     pub younger: Index,
     pub parent_at: Index,
-    pub nchild: u16,
+    pub nchild: Count,
     pub exits: Index,
     pub nexits: u8,
     pub state: u8,

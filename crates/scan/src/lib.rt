@@ -1,4 +1,5 @@
 // Whether what the bytes say of the header, the records, the run queue and the locks is right: each function decides one fact.
+use state::Count;
 use state::Index;
 use state::Sizes;
 ghost use mathlib.Core.Path.{_≡_};
@@ -257,13 +258,13 @@ pub fn up_ok(s: &[u8], z: Sizes) -> bool
 
 // How many records are ready, asleep, and asleep for a lock.
 pub struct Counts {
-    pub ready: u16,
-    pub asleep: u16,
-    pub queueing: u16,
+    pub ready: Count,
+    pub asleep: Count,
+    pub queueing: Count,
 }
 
 // 1 where record `i` is ready, and 0 where it is not.
-fn ready_at(s: &[u8], z: Sizes, i: Index) -> u16
+fn ready_at(s: &[u8], z: Sizes, i: Index) -> Count
     requires { ⌜ At z (now s) i ⌝ }
     ensures { λ r. ⌜ Tally (isReady (memIn z (now (s .entry))) i) r ⌝ }
 {
@@ -275,7 +276,7 @@ fn ready_at(s: &[u8], z: Sizes, i: Index) -> u16
 }
 
 // The same where it is asleep.
-fn asleep_at(s: &[u8], z: Sizes, i: Index) -> u16
+fn asleep_at(s: &[u8], z: Sizes, i: Index) -> Count
     requires { ⌜ At z (now s) i ⌝ }
     ensures { λ r. ⌜ Tally (isAsleep (memIn z (now (s .entry))) i) r ⌝ }
 {
@@ -287,7 +288,7 @@ fn asleep_at(s: &[u8], z: Sizes, i: Index) -> u16
 }
 
 // The same where it is asleep for a lock.
-fn queueing_at(s: &[u8], z: Sizes, i: Index) -> u16
+fn queueing_at(s: &[u8], z: Sizes, i: Index) -> Count
     requires { ⌜ At z (now s) i ⌝ }
     ensures { λ r. ⌜ Tally (isQueueing (memIn z (now (s .entry))) i) r ⌝ }
 {
@@ -308,9 +309,9 @@ pub fn count_states(s: &[u8], z: Sizes) -> Counts
     ensures { λ r. ⌜ Counted z (memIn z (now (s .entry))) r ⌝ }
 {
     let n = z.processes;
-    let mut ready: u16 = 0;
-    let mut asleep: u16 = 0;
-    let mut queueing: u16 = 0;
+    let mut ready: Count = 0;
+    let mut asleep: Count = 0;
+    let mut queueing: Count = 0;
     let mut i: Index = 0;
     while i < n {
         ready += ready_at(s, z, i);
@@ -374,17 +375,17 @@ fn member_ok(s: &[u8], z: Sizes, tag: u16, i: Index) -> bool
 // Whether a queue is right, and how many stand in it.
 pub struct Walked {
     pub ok: bool,
-    pub count: u16,
+    pub count: Count,
 }
 
 // Do the links from `head` to `tail` spell a queue of at most `most` records that may stand in it?
-fn line_ok(s: &[u8], z: Sizes, tag: u16, head: Index, tail: Index, most: u16) -> Walked
+fn line_ok(s: &[u8], z: Sizes, tag: u16, head: Index, tail: Index, most: Count) -> Walked
     requires { ⌜ LineAsks z (now s) head ⌝ }
     ensures { λ r. ⌜ LineWalked (z .processes) (memIn z (now (s .entry))) tag most head tail r ⌝ }
 {
     let mut link = head;
     let mut last: Index = 0;
-    let mut n: u16 = 0;
+    let mut n: Count = 0;
     while link != 0 {
         if n == most {
             return Walked {
@@ -455,7 +456,7 @@ fn held_ok(s: &[u8], z: Sizes, q: Index) -> bool
 }
 
 // Is lock `q` right, with at most `left` waiters? Where it is, how many wait. No more than `left` are visited.
-pub fn lock_ok(s: &[u8], z: Sizes, q: Index, left: u16) -> Walked
+pub fn lock_ok(s: &[u8], z: Sizes, q: Index, left: Count) -> Walked
     requires { ⌜ LockAt z (now s) q ⌝ }
     ensures { λ r. ⌜ LockWalked z (memIn z (now (s .entry))) q left r ⌝ }
 {
@@ -471,7 +472,7 @@ pub fn lock_ok(s: &[u8], z: Sizes, q: Index, left: u16) -> Walked
 }
 
 // Is each lock right, and do `queueing` records wait in all?
-pub fn locks_ok(s: &[u8], z: Sizes, queueing: u16) -> bool
+pub fn locks_ok(s: &[u8], z: Sizes, queueing: Count) -> bool
     requires { ⌜ Whole z (now s) ⌝ }
     ensures { λ b. ⌜ Decides b (LocksOk (sizesIn z) (memIn z (now (s .entry))) queueing) ⌝ }
 {
@@ -495,7 +496,7 @@ pub fn locks_ok(s: &[u8], z: Sizes, queueing: u16) -> bool
 }
 
 // Is the number of the sleepers that the header has right? The caller has counted them.
-pub fn asleep_ok(s: &[u8], z: Sizes, asleep: u16) -> bool
+pub fn asleep_ok(s: &[u8], z: Sizes, asleep: Count) -> bool
     requires { ⌜ AsleepAsks z (now s) asleep ⌝ }
     ensures { λ b. ⌜ Decides b (memIn z (now (s .entry)) fields.asleepCount 0 ≡ countBelow (z .processes) (isAsleep (memIn z (now (s .entry))))) ⌝ }
 {

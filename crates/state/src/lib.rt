@@ -7,6 +7,8 @@ ghost use Rattle.state.specs.Places.{startIn, placeIn, totalIn, cellIn, 
 
 // Numbers of records, and links to them.
 pub type Index = u16;
+// How many processes, or timers.
+pub type Count = u16;
 
 // How many records each region has, and the clock's frequency.
 pub struct Sizes {

@@ -1,4 +1,5 @@
 // Walks and counts of the check: the timers, the exits, and the living by age.
+use state::Count;
 use state::Index;
 use state::Sizes;
 ghost use mathlib.Core.Path.{_≡_};
@@ -19,7 +20,7 @@ ghost use Rattle.walks.specs.Queues.{TimerFacts, ExitFacts, AgeFacts, Qu
 // Whether something holds, and where it does a count.
 pub struct Counted {
     pub ok: bool,
-    pub count: u16,
+    pub count: Count,
 }
 
 // The same with a larger count.
@@ -40,7 +41,7 @@ const NOT_SUMMED: Summed = Summed {
 };
 
 // 1 where `v` is 1.
-fn if_one(v: u8) -> u16
+fn if_one(v: u8) -> Count
     ensures { λ r. ⌜ Ones (eqb v 1) r ⌝ }
 {
     if v == 1 {
@@ -50,7 +51,7 @@ fn if_one(v: u8) -> u16
 }
 
 // 1 where `v` is not 0.
-fn if_set(v: u64) -> u16
+fn if_set(v: u64) -> Count
     ensures { λ r. ⌜ Ones (isSet v) r ⌝ }
 {
     if v == 0 {
@@ -60,12 +61,12 @@ fn if_set(v: u64) -> u16
 }
 
 // How many timers are queued.
-pub fn count_queued(s: &[u8], z: Sizes) -> u16
+pub fn count_queued(s: &[u8], z: Sizes) -> Count
     requires { ⌜ Whole z (now s) ⌝ }
     ensures { λ r. ⌜ r ≡ countBelow (z .timers + z .processes) (λ t. eqb (memIn z (now (s .entry)) fields.isQueued t) 1) ⌝ }
 {
     let end = z.timers + z.processes;
-    let mut n: u16 = 0;
+    let mut n: Count = 0;
     let mut t: Index = 0;
     while t < end {
         let v = state::get8(s, z, state::TIMER, state::IS_QUEUED, t);
@@ -195,7 +196,7 @@ pub fn timer_queue_ok(s: &[u8], z: Sizes) -> Counted
 {
     let most = z.timers + z.processes;
     let mut link = state::get16(s, z, state::HEADER, state::TIMER_HEAD, 0);
-    let mut n: u16 = 0;
+    let mut n: Count = 0;
     let mut last: u64 = 0;
     while link != 0 {
         if n == most {
@@ -308,7 +309,7 @@ pub fn ages_ok(s: &[u8], z: Sizes) -> Counted
     let mut link = state::get16(s, z, state::HEADER, state::OLDEST, 0);
     let mut last: Index = 0;
     let mut pid: u64 = 0;
-    let mut n: u16 = 0;
+    let mut n: Count = 0;
     while link != 0 {
         if n == most {
             return NOT_COUNTED;
@@ -334,12 +335,12 @@ pub fn ages_ok(s: &[u8], z: Sizes) -> Counted
 }
 
 // How many records are used.
-pub fn count_living(s: &[u8], z: Sizes) -> u16
+pub fn count_living(s: &[u8], z: Sizes) -> Count
     requires { ⌜ Whole z (now s) ⌝ }
     ensures { λ r. ⌜ r ≡ countBelow (z .processes) (λ i. isSet (memIn z (now (s .entry)) fields.pid i)) ⌝ }
 {
     let end = z.processes;
-    let mut n: u16 = 0;
+    let mut n: Count = 0;
     let mut i: Index = 0;
     while i < end {
         let v = state::get64(s, z, state::PROCESS, state::PID, i);
