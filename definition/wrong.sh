@@ -2,9 +2,9 @@
 # wrong.sh: whether demand 3 rules out each wrong machine in definition/wrong.
 #
 # For each NAME.txt there, the edit crates/machine/must-fail/NAME.edit is made in a copy of the definition, and the proof checker must accept
-# the theorem in NAME.txt: that demand 3, as it is stated (crates/history/specs/Demand3.antt), does not hold of the machine so edited, at a
-# list of steps. The tables of examples and the laws, which would not hold of it either, are left out of the copy.
-# Says in one line how many were ruled out; names the first that was not, and fails.
+# NAME.txt between Head.txt and Tail.txt: that demand 3, as it is stated (crates/history/specs/Demand3.antt), fails for the machine so edited at
+# a list of steps. The tables of examples and the laws of the definition are left out of the copy. Before that, the checker must not accept
+# the same of the machine as it is. Says in one line how many were ruled out; names the first that was not, and fails.
 set -euo pipefail
 top=$(cd "$(dirname "$0")/.." && pwd)
 
@@ -34,29 +34,34 @@ prepare() {
   echo "pub mod Wrong" >>"$work/crates/history/specs/Lib.antt"
 }
 
-# change EDIT: the one place that the edit names
+# change EDIT: the one place that the edit names, which must be there once
 change() {
   local file old new text
   file=$work/crates/machine/$(sed -n 's/^file: //p' "$1")
   old=$(sed -n 's/^old: //p' "$1")
   new=$(sed -n 's/^new: //p' "$1")
   text=$(cat "$file")
-  [[ $text == *"$old"* ]] || fail "$(basename "$1"): what it replaces is not there"
+  [ -n "$old" ] && [ "$(grep -cF -- "$old" "$file")" -eq 1 ] || fail "$(basename "$1"): what it replaces is not there once"
   printf '%s\n' "${text/"$old"/"$new"}" >"$file"
 }
+
+# whether the checker accepts the copy
+accepted() { (cd "$work" && RT_CUT=0 rt check history) >"$work/out" 2>&1; }
 
 git init -q "$work"
 printf '%s\n' "memory:" "clock:" "machine: memory clock" "history: machine clock memory" >"$work/crates.txt"
 count=0
-for theorem in "$top"/definition/wrong/[a-z]*.txt; do
+for theorem in "$top"/definition/wrong/*.txt; do
   name=$(basename "$theorem" .txt)
+  [ "$name" != Head ] && [ "$name" != Tail ] || continue
   edit=$top/crates/machine/must-fail/$name.edit
   [ -f "$edit" ] || fail "no edit $name"
   prepare
+  cat "$top/definition/wrong/Head.txt" "$theorem" "$top/definition/wrong/Tail.txt" >"$work/crates/history/specs/Wrong.antt"
+  ! accepted || fail "$name: the same is accepted of the machine as it is"
+  grep -q 'Wrong.antt:.*error' "$work/out" || fail "$name: the copy is not accepted: $(grep -m1 error "$work/out" || true)"
   change "$edit"
-  cat "$top/definition/wrong/Head.txt" "$theorem" >"$work/crates/history/specs/Wrong.antt"
-  (cd "$work" && RT_CUT=0 rt check history) >"$work/out" 2>&1 ||
-    fail "$name is not refuted: $(grep -m1 error "$work/out" || true)"
+  accepted || fail "$name is not refuted: $(grep -m1 error "$work/out" || true)"
   count=$((count + 1))
 done
 [ "$count" -gt 0 ] || fail "no wrong machines in definition/wrong"

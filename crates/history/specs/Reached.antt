@@ -36,7 +36,7 @@ by-step m (some s) buffer n ne e = go (ltb buffer 127) e
     go true d = absurd (ne (cc))
     go false d = (s, d)
 
--- 14 never from a fresh state.
+-- 14 never from a fresh state of sizes in range.
 pub never-14-after : (z : Sizes) → SizesInRange z → (xs : List Input) (x : Input) → gives (machineAfter (fresh z) xs) x .reply ≡ refused 14 → ⊥
 never-14-after z h xs x e =
     let m : Machine = machineAfter (fresh z) xs in
@@ -52,7 +52,7 @@ pub sizes-after : (z : Sizes) (xs : List Input) → machineAfter (fresh z) xs .s
 unfolding fresh
 sizes-after z xs = sizes-along (fresh z) xs
 
--- 13 never where C ≥ 128 × P.
+-- 13 never where the sizes are in range and C ≥ 128 × P.
 pub never-13-after
     : (z : Sizes)
     → SizesInRange z

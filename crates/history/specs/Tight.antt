@@ -1,8 +1,8 @@
--- The bound is met: a stay behind one other in which 20 = 10 × (1 + 1) ticks pass. (So no smaller bound holds, and what the tick bound
--- asks of a stay can be had.)
+-- The bound is met behind one other: a stay with all that the tick bound asks, in which 20 = 10 × (1 + 1) ticks pass.
 use mathlib.Core.Path.{_≡_, refl}
 use mathlib.Core.List.{List, [], _∷_, _++_, map}
-use Prim.Native.Nat.{_+_, _*_}
+use Prim.Native.Nat.{_+_, _*_, _≤_}
+use native.Mathlib.Omega.{arith}
 use Rattle.machine.specs.Machine.{Machine, fresh}
 use Rattle.machine.specs.Listing.{openDefinitions}
 use Rattle.history.specs.History.{Event, gives, eventOf, historyFrom, machineAfter, firedIn, openHistory}
@@ -34,6 +34,10 @@ stay = historyFrom after (map does doing)
 pub tight-stay : Stay history event stay 3 (2 ∷ [])
 unfolding openDefinitions openHistory
 tight-stay = record { first = []; others = []; enters = refl; stands = refl; stays = (refl, (refl, (refl, (refl, (refl, (refl, (refl, (refl, (refl, (refl, (refl, (refl, (refl, (refl, (refl, (refl, (refl, (refl, (refl, (refl, (refl, (refl, tt)))))))))))))))))))))) }
+
+pub tight-entering : gives machine entering .fired ≤ 1
+unfolding openDefinitions
+tight-entering = omega arith
 
 pub tight-attended : Attended (history ++ event ∷ []) after (map does doing)
 unfolding openDefinitions openHistory passes allPass accepted

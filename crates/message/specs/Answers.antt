@@ -14,7 +14,7 @@ pub record MessageAsks (cell name : List ℕ) : Type 0 where
   pub cell-long : length cell ≡ 127
   pub name-fits : length name ≤ 28
 
--- The answer is the message's length.
+-- The answer is the message's length; the cell holds the message, and behind it what it held.
 pub record MessageWritten (cell cell′ name : List ℕ) (pid : ℕ) (status : List ℕ) (r : ℕ) : Type 0 where
   pub answer : r ≡ length (message name pid status)
   pub bytes : cell′ ≡ message name pid status ++ drop (length (message name pid status)) cell

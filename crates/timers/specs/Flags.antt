@@ -1,4 +1,4 @@
--- The flags of timers: 1 for each that is queued, as often as it stands in the queue.
+-- The flags of timers: how often each stands in the queue.
 use mathlib.Core.Path.{_≡_, refl, sym, subst, _∙_}
 use mathlib.Core.Bool.{Bool, true, false, not}
 use mathlib.Core.List.{List, [], _∷_}

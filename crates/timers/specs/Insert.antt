@@ -58,14 +58,14 @@ pub queued-machine : (z : Sizes) (m : Memory) → machineOf (sizesIn z) m .queue
 unfolding machineOf
 queued-machine z m = refl
 
--- What the helpers ask: the bytes are long enough, the link and the timer are in range.
+-- What the helpers ask: the sizes are in range, the bytes long enough, the link and the timer in range.
 pub record LinkAsks (z : Sizes) (s : List ℕ) (at t : ℕ) : Type 0 where
   pub sizes : SizesInRange (sizesIn z)
   pub long : totalIn z ≤ length s
   pub range : at ≤ timersIn z
   pub index : t < timersIn z
 
--- Timer t is not queued.
+-- The queue is a chain, the timer is in range, and it is not queued.
 pub record InsertAsks (z : Sizes) (s : List ℕ) (t : ℕ) : Type 0 where
   pub timers : TimersIn z s
   pub index : t < timersIn z

@@ -22,7 +22,7 @@ use Rattle.timers.specs.Entries.{entry, entries}
 abbrev pub without : ℕ → List ℕ → List ℕ
 without t xs = filter (λ (x : ℕ). not (eqb x t)) xs
 
--- The link to the number before t; p where t is the first.
+-- The link to the number before t; p where t is the first, and the last link where t is not there.
 abbrev pub before : ℕ → ℕ → List ℕ → ℕ
 before t p [] = p
 before t p (y ∷ ys) = if eqb y t then p else before t (suc y) ys

@@ -49,7 +49,7 @@ abbrev pub removeMem : Memory → ℕ → ℕ → ℕ → Memory
 removeMem m flag p t =
     setField (setField (setField m fields.timerHead (headOut m flag p t)) fields.timerNext (linksOut m flag p t)) fields.isQueued (alter (m fields.isQueued) t 0)
 
--- The flag of t says whether t is queued.
+-- The queue is a chain, the timer is in range, and its flag says whether it is queued.
 pub record RemoveAsks (z : Sizes) (s : List ℕ) (t : ℕ) : Type 0 where
   pub timers : TimersIn z s
   pub index : t < timersIn z

@@ -16,7 +16,7 @@ use Rattle.state.specs.declared.Sizes.{Sizes}
 use Rattle.timers.specs.Find.{timersIn, queueIn, fromLink, TimersIn, Chained, next-left}
 use Rattle.timers.specs.Out.{before}
 
--- The link to the timer before t, 0 where t is the first.
+-- The link to the timer before t, 0 where t is the first, and the last link where t is not queued.
 abbrev pub beforeIn : Sizes → Memory → ℕ → ℕ
 beforeIn z m t = before t 0 (queueIn z m)
 

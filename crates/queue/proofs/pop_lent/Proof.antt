@@ -1,4 +1,4 @@
--- `queue::pop_lent` meets its contract: a walk of its MIR, by hand. The queue's borrow is opened and the queue copied out; the slice goes to `pop` for good; the queue that `pop` returns is stored in the queue's cell, and the borrow is closed at it.
+-- `queue::pop_lent` meets its contract: a walk of its MIR. The queue's borrow is opened and the queue copied out; the slice is lent on to `pop` until the end; the queue that `pop` returns is stored in the queue's cell, and the borrow is closed at it.
 -- All that the proof knows of `pop` is that it meets its contract. Assumes nothing.
 use mathlib.Core.Path.{_≡_, refl, ap}
 use Prim.Native.Nat.{ℕ, _<_, _^_}
@@ -152,7 +152,7 @@ module _ {M : Type 1} (𝓤 : URA M) (H : Heap 𝓤) (A : Atoms 𝓤) (W : Given
         split ! $ move ! (1 ∷ []) $ use1 W (some (λ (zs : List ℕ × (Unit {0} × (Unit {0} × Unit {0}))). ‵ (lasts pop.ended (κ′, tt) (x, (z, (h, tt))) zs) ⊛ raw (fact 𝓤 (PopDone z ys (zs .0) h r)))) (id⊢ 𝓤 _) $ pick ! (λ zs.
         split ! $ move ! (1 ∷ []) $ heard ! (PopDone z ys (zs .0) h r) (λ e. fsplit ! $ fsplit ! $ move ! (1 ∷ []) $ feqL ! (λ l.
         move ! (2 ∷ []) $ split ! $ move ! (1 ∷ []) $ peeks ! K.the-row (Is K.the-row) (shows 𝓤 H A K.the-row) r (w ∷ []) (λ is.
-        -- [what the result owns; the token; the last list; …; z's and i's; the queue's cell; what it owned; the open borrow; obs; auth; _8; …]
+        -- [what the result owns; the token; the last list; …; z's; the queue's cell; what it owned; the open borrow; obs; auth; _8; …]
         land ! (from ! (stop !)) (init ! 16 refl (LL.lawful K.the-type K′.the-laws 𝓤 H A W .typed r _ is .0)) $
         rewrite ! 16 (λ (u : Val). ‵ (fat fullShare K′.mir l₅ 0 u)) (ap only (LL.tells K.the-type K′.the-laws r (w ∷ []) is)) refl $
         assigns ! (of-opd ! (load ! (from ! (fld ! refl (stop !))) (look-in ! 16 (sub ! 1 refl (whole !))))) (from ! (stop !)) (init ! 14 refl (LL.lawful T.the-type T′.the-laws 𝓤 H A W .typed (r .queue) _ (queue-is r w is) .0)) $

@@ -1,4 +1,4 @@
--- `queue::push_lent` meets its contract: a walk of its MIR, by hand. The queue's borrow is opened and the queue copied out; the slice goes to `push` for good; what `push` returns is stored in the queue's cell, and the borrow is closed at it.
+-- `queue::push_lent` meets its contract: a walk of its MIR. The queue's borrow is opened and the queue copied out; the slice is lent on to `push` until the end; what `push` returns is stored in the queue's cell, and the borrow is closed at it.
 -- All that the proof knows of `push` is that it meets its contract. Assumes nothing.
 use mathlib.Core.Path.{_≡_, refl}
 use Prim.Native.Nat.{ℕ, _<_, _^_}
