@@ -4,8 +4,8 @@
 #   2. on each fixed list in lists/ the definition computes the kept listing, and every answer and number arises in one of them;
 #   3. demand 3, as it is stated, does not hold of wrong machines;
 #   4. where the Rust is at hand (the folder R9_SRC, from the repository's top, by default ../shared/docs/src/port/src): the kept
-#      listings are what the Rust gives today, they hold every step with each number that it can meet, and the definition and the
-#      Rust give the same on lists that are not kept, made here;
+#      listings are what the Rust gives today, they hold every step with each number that it can meet, the definition and the
+#      Rust give the same on lists that are not kept, made here, and `exit_message`, as C callers have it, and the Rust the same messages;
 #   5. where cargo is installed: `size`, `make` and `check`, as C callers have them, on many states against an independent reading;
 #   6. every crate is proved from nothing, every must-fail edit is refused, and every program writes what it must (`rt ci`).
 set -euo pipefail
@@ -19,6 +19,11 @@ if [ -d "$rust" ]; then
   R9_SRC=$(cd "$rust" && pwd) || fail "cannot enter the folder $rust"
   export R9_SRC
 fi
+
+# the library of a crate for C callers
+library() {
+  rt staticlib "$1" >target/staticlib.out 2>&1 || { tail -n 20 target/staticlib.out >&2; fail "no static library of $1"; }
+}
 
 mkdir -p target
 rt fmt --check
@@ -40,15 +45,17 @@ if [ -d "$rust" ]; then
   lists/compare.sh
   lists/coverage.sh -q
   definition/differ.sh 100 70 1
+  library message
+  (cd messages && cargo build --quiet --release --offline) || fail "the test of messages does not build"
+  messages/target/release/messages
 else
   echo "test.sh: no folder $rust: the runs against the Rust are left out, the fixed lists stand in"
 fi
 
-# the libraries for C callers, and the program in outside/ that tries them
+# the state's functions for C callers, and the program in outside/ that tries them
 if command -v cargo >/dev/null 2>&1; then
-  for crate in make verify; do
-    rt staticlib "$crate" >target/staticlib.out 2>&1 || { tail -n 20 target/staticlib.out >&2; fail "no static library of $crate"; }
-  done
+  library make
+  library verify
   (cd outside && cargo build --quiet --release --offline) || fail "the outside test does not build"
   outside/target/release/outside
 else

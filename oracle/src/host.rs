@@ -320,6 +320,8 @@ impl ProcArch for Host {
         UP.0.get()
     }
 
+    // The signature is r9's.
+    #[allow(clippy::not_unsafe_ptr_arg_deref)]
     fn set_up(p: *mut Proc<Host>) {
         UP.0.set(p);
         // SAFETY: p is null, or the process being dispatched.

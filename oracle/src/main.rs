@@ -1,44 +1,8 @@
-//! The oracle: r9's own process code, unchanged, driven by document 01's
-//! steps.
+//! The oracle: r9's own process code driven by document 01's steps.
 
-extern crate alloc;
-extern crate self as sys;
-
-/// Prints a line in the kernel; the only one that can come is counted.
-macro_rules! iprintln {
-    ($($text:tt)*) => {{
-        assert!(format!($($text)*).contains("probably stuck"), "an unexpected line");
-        crate::host::STUCK.0.set(crate::host::STUCK.0.get() + 1);
-    }};
-}
-pub(crate) use iprintln;
-
-include!(concat!(env!("OUT_DIR"), "/port.rs"));
-
-mod coverage;
-mod dev;
-mod driver;
-mod generate;
-mod guard;
-mod host;
-mod libc;
-mod listing;
-mod mcslock;
-mod mem;
-mod pagealloc;
-mod parse;
-mod perform;
-mod random;
-mod sizes;
-mod uaccess;
-
-pub use libc::*;
-
-/// What r9's functions return, with an error string.
-pub type Result<T, E = &'static str> = core::result::Result<T, E>;
-
-use driver::Driver;
-use sizes::Sizes;
+use oracle::driver::Driver;
+use oracle::sizes::Sizes;
+use oracle::{coverage, generate, listing, parse};
 use std::io::{self, Read};
 use std::process::exit;
 

@@ -7,6 +7,7 @@ ghost use Rattle.message.specs.Text.{TextAt, NameEnds};
 ghost use Rattle.message.specs.Digits.{Written};
 ghost use Rattle.message.specs.Cut.{MovedBack, CutAsks, CutLength, CopyAsks, Copied};
 ghost use Rattle.message.specs.Answers.{MessageAsks, MessageWritten};
+ghost use Rattle.message.specs.Called.{MessageAnswers};
 
 // Where the first zero byte of `name` stands, or its length where there is none.
 fn name_len(name: &[u8]) -> usize
@@ -136,4 +137,22 @@ pub fn write_message(cell: &mut [u8], name: &[u8], pid: u64, status: &[u8]) -> u
     let n = cut_len(front, digits, status);
     copy(cell, front, digits, status, n);
     n as u8
+}
+
+// The refusal of lengths: 01's number 2, which is a length too, and 256.
+const REFUSED: u64 = 258;
+
+// For C callers: writes the message of an exit at the front of `cell`, and leaves the bytes behind it. The answer is the
+// message's length, 0 to 127, or 258, nothing written, where `cell` is under 127 bytes or `name` over 28.
+#[no_mangle]
+pub extern "C" fn exit_message(cell: &mut [u8], name: &[u8], pid: u64, status: &[u8]) -> u64
+    ensures { λ r. ⌜ MessageAnswers (now (cell .entry)) (now (cell .exit)) (now (name .entry)) pid (now (status .entry)) r ⌝ }
+{
+    if cell.len() < 127 {
+        return REFUSED;
+    }
+    if 28 < name.len() {
+        return REFUSED;
+    }
+    write_message(&mut cell[..127], name, pid, status) as u64
 }

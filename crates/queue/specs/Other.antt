@@ -28,24 +28,24 @@ pub apart-by : (f : ℕ → ℕ) (a b : ℕ) → (a ≡ b → ⊥) → (xs ys : 
 apart-by f a b ne xs ys h k = all-map (λ x e. absent-by f a b ne x e ys k) xs h
 
 -- The number of a link is not in ys.
-abbrev LinkAbsent : ℕ → List ℕ → Type 0
+abbrev pub LinkAbsent : ℕ → List ℕ → Type 0
 LinkAbsent h ys = (i : ℕ) → h ≡ suc i → Absent i ys
 
 link-absent : (x : ℕ) (ys : List ℕ) → Absent x ys → LinkAbsent (suc x) ys
 link-absent x ys a i e = subst (λ (k : ℕ). Absent k ys) (omega (arith, e)) a
 
-final-absent : (d : ℕ) (xs ys : List ℕ) → LinkAbsent d ys → Apart xs ys → LinkAbsent (final d xs) ys
+pub final-absent : (d : ℕ) (xs ys : List ℕ) → LinkAbsent d ys → Apart xs ys → LinkAbsent (final d xs) ys
 final-absent d [] ys h a = h
 final-absent d (x ∷ xs) ys h a = final-absent (suc x) xs ys (link-absent x ys (a .0)) (a .1)
 
-first-absent : (xs ys : List ℕ) → Apart xs ys → LinkAbsent (firstLink xs) ys
+pub first-absent : (xs ys : List ℕ) → Apart xs ys → LinkAbsent (firstLink xs) ys
 first-absent [] ys a i e = absurd (omega (arith, e))
 first-absent (x ∷ xs) ys a i e = link-absent x ys (a .0) i e
 
-queue-alter : {n : ℕ} {g : ℕ → ℕ} {h t : ℕ} {ys : List ℕ} (i v : ℕ) → Absent i ys → Queue n g h t ys → Queue n (alter g i v) h t ys
+pub queue-alter : {n : ℕ} {g : ℕ → ℕ} {h t : ℕ} {ys : List ℕ} (i v : ℕ) → Absent i ys → Queue n g h t ys → Queue n (alter g i v) h t ys
 queue-alter i v a q = record { chain = chain-frame i v a (q .chain); ends = q .ends }
 
-after-push
+pub after-push
     : {n : ℕ} {g : ℕ → ℕ} {h t : ℕ} {ys : List ℕ} (u i : ℕ)
     → LinkAbsent u ys
     → Absent i ys
@@ -54,7 +54,7 @@ after-push
 after-push zero i b a q = queue-alter i 0 a q
 after-push (suc u) i b a q = queue-alter u (suc i) (b u refl) (queue-alter i 0 a q)
 
-after-pop : {n : ℕ} {g : ℕ → ℕ} {h t : ℕ} {ys : List ℕ} (u : ℕ) → LinkAbsent u ys → Queue n g h t ys → Queue n (popLinks g u) h t ys
+pub after-pop : {n : ℕ} {g : ℕ → ℕ} {h t : ℕ} {ys : List ℕ} (u : ℕ) → LinkAbsent u ys → Queue n g h t ys → Queue n (popLinks g u) h t ys
 after-pop zero b q = q
 after-pop (suc u) b q = queue-alter u 0 (b u refl) q
 

@@ -48,7 +48,7 @@ pub record PushDone (z : Sizes) (s s′ : List ℕ) (q : RunQueue) (i : ℕ) (r 
   pub head : r .head ≤ z .processes
   pub tail : r .tail ≤ z .processes
 
-push-writable
+pub push-writable
     : (z : Sizes) (t i : ℕ)
     → t ≤ z .processes
     → i < z .processes

@@ -227,7 +227,7 @@ fn store_counts(s: &mut [u8], z: Sizes, i: Index, p: Proc)
 }
 
 // Stores where the call goes on.
-fn store_resume(s: &mut [u8], z: Sizes, i: Index, r: Resume)
+pub fn store_resume(s: &mut [u8], z: Sizes, i: Index, r: Resume)
     requires { ⌜ LoadAsks z (now s) i ⌝ }
     ensures { λ _. ⌜ Wrote z (now (s .entry)) (now (s .exit)) (resumeStores i r) ⌝ }
 {

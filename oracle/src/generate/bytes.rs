@@ -58,7 +58,7 @@ impl Generator {
     }
 
     pub(super) fn odd_byte(&mut self) -> u8 {
-        let any = self.random.next() as u8;
+        let any = self.random.bits() as u8;
         let byte = self.random.pick(&[b' ', b';', 0, 0x80, 0xc3, b'\r', b'\t', b'0', any]);
         if byte == b'\n' { b' ' } else { byte }
     }

@@ -22,7 +22,7 @@ impl Generator {
         match self.random.below(20) {
             0 | 1 => self.random.pick(&BAD_FLAGS),
             2 | 3 => self.random.pick(&CHANGES),
-            4 => self.random.next() as u32,
+            4 => self.random.bits() as u32,
             _ => self.random.pick(&FORKS),
         }
     }

@@ -1,0 +1,9 @@
+-- The timer queue as operations on the lent state.
+pub mod Only
+pub mod Aside
+pub mod Del
+pub mod Add
+pub mod Pop
+pub mod Due
+pub mod Readd
+pub mod Queued
