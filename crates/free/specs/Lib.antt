@@ -1,0 +1,25 @@
+-- Which records and cells are free, found and marked.
+pub mod Bits
+pub mod First
+pub mod Words
+pub mod Bit
+pub mod Highest
+pub mod Levels
+pub mod Right
+pub mod Asks
+pub mod FindRecord
+pub mod FreeCell
+pub mod FindCell
+pub mod Above
+pub mod Record
+pub mod UseRecord
+pub mod RecordStores
+pub mod UseRecordCode
+pub mod DropRecordCode
+pub mod Cell
+pub mod UseCell
+pub mod CellStores
+pub mod UseCellCode
+pub mod DropCellCode
+pub mod Restored
+pub mod SetBefore
