@@ -32,34 +32,38 @@ refusal-tests : (m : Machine) (s : Step) → refusal m s ≡ tests (order (s .bo
 unfolding refusal
 refusal-tests m s = first-tests (order (s .body)) m s
 
+and-none : (b : Bool) → (b && false) ≡ false
+and-none true = refl
+and-none false = refl
+
 -- wakeup, canqlock: a field out of range.
 pub refusal-wakeup : (m : Machine) (k : Bool) (R : ℕ) → refusal m (step k (wakeup R)) ≡ (if not (ltb R (m .sizes .rendez)) then some 2 else none)
 unfolding openTable openStep
-refusal-wakeup m true R = refusal-tests m (step true (wakeup R))
-refusal-wakeup m false R = refusal-tests m (step false (wakeup R))
+refusal-wakeup m true R = refusal-tests m (step true (wakeup R)) ∙ rw (and-none (isNone (m .up)))
+refusal-wakeup m false R = refusal-tests m (step false (wakeup R)) ∙ rw (and-none (isNone (m .up)))
 
 pub refusal-canqlock : (m : Machine) (k : Bool) (Q : ℕ) → refusal m (step k (canqlock Q)) ≡ (if not (ltb Q (m .sizes .locks)) then some 2 else none)
 unfolding openTable openStep
-refusal-canqlock m true Q = refusal-tests m (step true (canqlock Q))
-refusal-canqlock m false Q = refusal-tests m (step false (canqlock Q))
+refusal-canqlock m true Q = refusal-tests m (step true (canqlock Q)) ∙ rw (and-none (isNone (m .up)))
+refusal-canqlock m false Q = refusal-tests m (step false (canqlock Q)) ∙ rw (and-none (isNone (m .up)))
 
 -- qunlock: that, or a lock that is not held.
 pub refusal-qunlock
     : (m : Machine) (k : Bool) (Q : ℕ)
     → refusal m (step k (qunlock Q)) ≡ (if not (ltb Q (m .sizes .locks)) then some 2 else if not (heldLock m Q) then some 6 else none)
 unfolding openTable openStep
-refusal-qunlock m true Q = refusal-tests m (step true (qunlock Q))
-refusal-qunlock m false Q = refusal-tests m (step false (qunlock Q))
+refusal-qunlock m true Q = refusal-tests m (step true (qunlock Q)) ∙ rw (and-none (isNone (m .up)))
+refusal-qunlock m false Q = refusal-tests m (step false (qunlock Q)) ∙ rw (and-none (isNone (m .up)))
 
 pub refusal-due : (m : Machine) (k : Bool) → refusal m (step k due) ≡ none
 unfolding openTable openStep
-refusal-due m true = refusal-tests m (step true due)
-refusal-due m false = refusal-tests m (step false due)
+refusal-due m true = refusal-tests m (step true due) ∙ rw (and-none (isNone (m .up)))
+refusal-due m false = refusal-tests m (step false due) ∙ rw (and-none (isNone (m .up)))
 
 pub refusal-cond : (m : Machine) (k : Bool) (C v : ℕ) → refusal m (step k (cond C v)) ≡ (if not (inRange (m .sizes) (cond C v)) then some 2 else none)
 unfolding openTable openStep
-refusal-cond m true C v = refusal-tests m (step true (cond C v))
-refusal-cond m false C v = refusal-tests m (step false (cond C v))
+refusal-cond m true C v = refusal-tests m (step true (cond C v)) ∙ rw (and-none (isNone (m .up)))
+refusal-cond m false C v = refusal-tests m (step false (cond C v)) ∙ rw (and-none (isNone (m .up)))
 
 -- yield: marked, or nobody runs.
 pub refusal-yield : (m : Machine) (k : Bool) → refusal m (step k yield) ≡ (if k then some 3 else if isNone (m .up) then some 4 else none)
@@ -67,6 +71,6 @@ unfolding openTable openStep
 refusal-yield m true = refusal-tests m (step true yield)
 refusal-yield m false = refusal-tests m (step false yield) ∙ drop-true (isNone (m .up))
   where
-    drop-true : (b : Bool) → (if b && true then some 4 else none) ≡ (if b then some 4 else none)
+    drop-true : (b : Bool) → if_then_else_ {A = Option ℕ} (b && true) (some 4) none ≡ if_then_else_ {A = Option ℕ} b (some 4) none
     drop-true true = refl
     drop-true false = refl
