@@ -53,7 +53,7 @@ queues-of : {z : machine.Sizes} {m : Memory} → Placed z m 0 → Timed z m → 
 queues-of p t =
     record { run = p .run .queue; locks = λ q l. p .locks q; timers = t .chain; queued = t .queued; asleep = p .asleep ∙ zero-add _ }
 
-tagged-of : {z : machine.Sizes} {m : Memory} → Placed z m 0 → Tagged z m
+pub tagged-of : {z : machine.Sizes} {m : Memory} → Placed z m 0 → Tagged z m
 tagged-of {z} {m} p =
     record {
       free = p .free;

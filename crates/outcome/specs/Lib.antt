@@ -2,4 +2,12 @@
 pub mod Means
 pub mod Stepped
 pub mod Laws
+pub mod Room
 pub mod Refusals
+pub mod RefusalsRange
+pub mod RefusalsRun
+pub mod RefusalsLock
+pub mod RefusalsTime
+pub mod RefusalsTsleep
+pub mod RefusalsMake
+pub mod RefusalsExit

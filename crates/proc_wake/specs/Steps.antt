@@ -40,7 +40,10 @@ use Rattle.outcome.specs.declared.Reply.the-variants.{Done, Yes, No, Refused}
 use Rattle.outcome.specs.Means.{means, told, statusOf}
 use Rattle.outcome.specs.Stepped.{Well, Stepped, leftBytes}
 use Rattle.outcome.specs.Laws.{stepped-done, stepped-refused}
-use Rattle.outcome.specs.Refusals.{step, refusal-wakeup, refusal-canqlock, refusal-qunlock, refusal-cond, refusal-due}
+use Rattle.outcome.specs.Refusals.{step}
+use Rattle.outcome.specs.RefusalsRun.{refusal-wakeup, refusal-cond}
+use Rattle.outcome.specs.RefusalsLock.{refusal-canqlock, refusal-qunlock}
+use Rattle.outcome.specs.RefusalsTime.{refusal-due}
 
 -- A step that asks nothing of the interrupt mark: whether it is marked or not, this is what it does.
 pub record Took (z : Sizes) (s s′ : List ℕ) (b : Body) (r : code.Reply) : Type 0 where
@@ -64,7 +67,7 @@ pub wakeup-asks : {z : Sizes} {s : List ℕ} {r : ℕ} → RendezAsks z s r → 
 wakeup-asks a = record { owed = 0; holds = a .well .holds; index = a .index }
 
 wakeup-allowed : {z : Sizes} {s : List ℕ} {r : ℕ} → RendezAsks z s r → (k : Bool) → refusal (machineIn z s) (step k (wakeup r)) ≡ none
-unfolding machineOf
+unfolding machineOf inRange
 wakeup-allowed {z} {s} {r} a k = refusal-wakeup (machineIn z s) k r ∙ rw (lt-ltb r (z .rendez) (a .index))
 
 wakeup-reply : (m : Machine) (r : ℕ) (ps : List ℕ) → wake r m .readied ≡ ps → perform (wakeup r) m .reply ≡ answer (Answer.yesNo (not (isEmpty ps)))
@@ -103,7 +106,7 @@ pub canqlock-asks : {z : Sizes} {s : List ℕ} {q : ℕ} → LockAsked z s q →
 canqlock-asks a = record { owed = 0; holds = a .well .holds; index = a .index }
 
 canqlock-allowed : {z : Sizes} {s : List ℕ} {q : ℕ} → LockAsked z s q → (k : Bool) → refusal (machineIn z s) (step k (canqlock q)) ≡ none
-unfolding machineOf
+unfolding machineOf inRange
 canqlock-allowed {z} {s} {q} a k = refusal-canqlock (machineIn z s) k q ∙ rw (lt-ltb q (z .locks) (a .index))
 
 held-not : (b : Bool) → true ≡ not b → b ≡ false
@@ -166,7 +169,7 @@ qunlock-number
     → LockAsked z s q
     → (k : Bool)
     → refusal (machineIn z s) (step k (qunlock q)) ≡ (if not (lock (machineIn z s) q .held) then some 6 else none)
-unfolding machineOf heldLock
+unfolding machineOf inRange heldLock
 qunlock-number {z} {s} {q} a k = refusal-qunlock (machineIn z s) k q ∙ rw (lt-ltb q (z .locks) (a .index))
 
 pub qunlock-no : {z : Sizes} {s s₁ : List ℕ} {q : ℕ} {u : Unlock} → LockAsked z s q → Given z s s₁ q u → u ≡ NotHeld → Took z s s₁ (qunlock q) (Refused 6)

@@ -1,0 +1,20 @@
+-- The wait queue of a process: its children's exits, and the message cells that they take.
+pub mod Same
+pub mod Change
+pub mod Join
+pub mod Stored
+pub mod Push
+pub mod PushCode
+pub mod Pop
+pub mod PopCode
+pub mod Messages
+pub mod WriteCode
+pub mod Wait
+pub mod WaitCode
+pub mod Marks
+pub mod Take
+pub mod TakeCode
+pub mod Clear
+pub mod Add
+pub mod Added
+pub mod AddCode
