@@ -133,7 +133,7 @@ pub copy-start : {cell name digits status : List ℕ} {n : ℕ} → CopyAsks cel
 copy-start a = record { within = omega arith; asks = a; bytes = refl; long = refl }
 
 -- one byte more
-copy-step : (i : ℕ) (bytes cell : List ℕ) → i < length bytes → i < length cell
+pub copy-step : (i : ℕ) (bytes cell : List ℕ) → i < length bytes → i < length cell
     → set (take i bytes ++ drop i cell) i (getD bytes i 0) ≡ take (suc i) bytes ++ drop (suc i) cell
 copy-step i [] cell h l = absurd (not-suc-le-zero h)
 copy-step i (x ∷ bytes) [] h l = absurd (not-suc-le-zero l)
