@@ -116,7 +116,7 @@ module _ (x : Queued) (rest : List Queued) (now : ℕ) where
           short p n (inr b) = b .1
 
 -- The head, due at now, fires.
-fine-fire : (x : Queued) (rest : List Queued) (now : ℕ) (f : Firing)
+pub fine-fire : (x : Queued) (rest : List Queued) (now : ℕ) (f : Firing)
     → Fine none [] (f .machine)
     → f .machine .lastNow ≡ now
     → f .machine .queued ≡ x ∷ rest

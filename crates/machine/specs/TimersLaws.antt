@@ -75,7 +75,7 @@ readd-owed now x m h = go (eqb (periodOf (x .timer) m) 0) refl
     go false e = rw (e, readd) (rw owed-insert (omega (arith, eqb-false (periodOf (x .timer) m) 0 e)))
 
 -- A firing leaves fewer to come.
-fire-owed : (now : ℕ) (x : Queued) (rest : List Queued) (f : Firing) → x .deadline ≤ now → firingsOwed now (fire x rest f .machine .queued) < firingsOwed now (x ∷ rest)
+pub fire-owed : (now : ℕ) (x : Queued) (rest : List Queued) (f : Firing) → x .deadline ≤ now → firingsOwed now (fire x rest f .machine .queued) < firingsOwed now (x ∷ rest)
 unfolding fire firingsOwed withQueued
 fire-owed now x rest f h =
     let w : Woken = callback (x .timer) (withQueued rest (f .machine)) in

@@ -38,7 +38,7 @@ use Rattle.waitq.specs.declared.WaitState.the-variants.{InUse, NoChild, Take, S
 use Rattle.waitq.specs.Wait.{waitStateOf, isWaiting}
 use Rattle.waitq.specs.Marks.{holds-cells, exits-number}
 use Rattle.waitq.specs.WaitCode.{WaitAsks, WaitIs}
-use Rattle.waitq.specs.Take.{TakeAsks, TakeDone}
+use Rattle.waitq.specs.Take.{TakeAsks, TakeDone, takeMem}
 use Rattle.outcome.specs.declared.Reply as code
 use Rattle.outcome.specs.declared.Reply.the-variants.{Child, Asleep, Refused}
 use Rattle.outcome.specs.Means.{means, told, statusOf}
@@ -48,6 +48,7 @@ use Rattle.outcome.specs.Refusals.{step}
 use Rattle.outcome.specs.RefusalsExit.{isWaiting as callWaits, waiting, noChild, refused-wait-3, refused-wait-4, refused-wait-14, refused-wait-15, allowed-wait}
 use Rattle.outcome.specs.Room.{well-room}
 use Rattle.proc_sleep.specs.Running.{nobody-up, somebody-up, link-up, current-is}
+use Rattle.proc_wait.specs.declared.Gone.{Gone}
 use Rattle.proc_wait.specs.Copy.{CopyAsks, Copied, messageIn}
 use Rattle.proc_wait.specs.Sleep.{AloneAsks, WentAsleep}
 
@@ -220,10 +221,12 @@ pub record ChildAsks (z : Sizes) (s : List ℕ) (i : ℕ) (b : List ℕ) : Type 
   pub room : 127 ≤ length b
 
 -- The newest exit is taken: the answer names the child, and its message stands at the front of the buffer.
-pub record TookChild (z : Sizes) (s s′ : List ℕ) (i : ℕ) (b b′ : List ℕ) (r : code.Reply) : Type 0 where
+pub record TookChild (z : Sizes) (s s′ : List ℕ) (i : ℕ) (b b′ : List ℕ) (g : Gone) : Type 0 where
   pub holds : Holds z s′ 0
   pub machine : machineIn z s′ ≡ withProcess i (takeExit (process (machineIn z s) i)) (machineIn z s)
-  pub reply : r ≡ Child (newest (process (machineIn z s) i) .pid) (length (newest (process (machineIn z s) i) .message))
+  pub memory : memIn z s′ ≡ takeMem (z .cells) (memIn z s) i (memIn z s fields.exits i - 1)
+  pub pid : g .pid ≡ newest (process (machineIn z s) i) .pid
+  pub long : g .length ≡ length (newest (process (machineIn z s) i) .message)
   pub buffer : b′ ≡ newest (process (machineIn z s) i) .message ++ drop (length (newest (process (machineIn z s) i) .message)) b
 
 exits-there : {z : Sizes} {s : List ℕ} {i : ℕ} {b : List ℕ} → PwaitAsks z s i b → isEmpty (process (machineIn z s) i .exits) ≡ false → 0 < memIn z s fields.nexits i
@@ -244,21 +247,21 @@ pwait-child {z} {s} {i} {b} {w} a h e =
     }
 
 pub pwait-took
-    : {z : Sizes} {s s₁ : List ℕ} {i : ℕ} {b b₁ : List ℕ} {w : WaitState} {r : code.Reply}
+    : {z : Sizes} {s s₁ : List ℕ} {i : ℕ} {b b₁ : List ℕ} {w : WaitState} {g : Gone}
     → PwaitAsks z s i b
     → WaitIs z s i w
     → w ≡ Take
-    → TookChild z s s₁ i b b₁ r
-    → WaitTook z s s₁ false b b₁ r
+    → TookChild z s s₁ i b b₁ g
+    → WaitTook z s s₁ false b b₁ (Child (g .pid) (g .length))
 unfolding means told statusOf
-pwait-took {z} {s} {s₁} {i} {b} {b₁} {w} {r} a h e d =
+pwait-took {z} {s} {s₁} {i} {b} {b₁} {w} {g} a h e d =
     let p : Process = process (machineIn z s) i in
     let f : (isWaiting (p .resume) ≡ false) × (isEmpty (p .exits) ≡ false) = shown a h Take e in
     let q : (perform wait (machineIn z s) .reply ≡ answer (Answer.child (newest p .pid) (newest p .message))) × (perform wait (machineIn z s) .after ≡ withProcess i (takeExit p) (machineIn z s)) =
     wait-takes (machineIn z s) i (runner a) (f .1)
     in
-    let m : means r (newest p .message) [] ≡ answer (Answer.child (newest p .pid) (newest p .message)) =
-    ap (λ (x : code.Reply). means x (newest p .message) []) (d .reply)
+    let m : means (Child (g .pid) (g .length)) (newest p .message) [] ≡ answer (Answer.child (newest p .pid) (newest p .message)) =
+    ap₂ (λ (x y : ℕ). answer (Answer.child x (take y (newest p .message)))) (d .pid) (d .long)
     ∙ ap (λ (x : List ℕ). answer (Answer.child (newest p .pid) x)) (take-length (newest p .message))
     in
     record {
@@ -301,7 +304,7 @@ pub took-child
     → p ≡ memIn z s fields.exitPid (l - 1)
     → Copied z s (l - 1) b b₁ n
     → TakeDone z s s₁ i r
-    → TookChild z s s₁ i b b₁ (Child p n)
+    → TookChild z s s₁ i b b₁ (record { pid = p; length = n })
 unfolding exitAt
 took-child {z} {s} {s₁} {i} {l} {p} {n} {r} {b} {b₁} a e d c t =
     let q : r ≡ l = t .link ∙ sym e in
@@ -312,7 +315,9 @@ took-child {z} {s} {s₁} {i} {l} {p} {n} {r} {b} {b₁} a e d c t =
     record {
       holds = t .did .holds 0 (a .holds);
       machine = t .did .machine;
-      reply = ap₂ Child (d ∙ ap (λ (o : Exit). o .pid) (sym x)) (c .answer ∙ sym len ∙ ap (λ (o : Exit). length (o .message)) (sym x));
+      memory = t .did .memory ∙ ap (λ (k : ℕ). takeMem (z .cells) (memIn z s) i (k - 1)) (t .link);
+      pid = d ∙ ap (λ (o : Exit). o .pid) (sym x);
+      long = c .answer ∙ sym len ∙ ap (λ (o : Exit). length (o .message)) (sym x);
       buffer =
           c .bytes
           ∙ ap (λ (k : ℕ). messageIn z s (l - 1) ++ drop k b) (sym len)

@@ -34,16 +34,22 @@ fn wait_asleep(s: &mut [u8], z: Sizes, i: Index)
     dat::wait_on(s, z, i);
 }
 
+// A child that has exited: its pid, and how long its message is.
+pub struct Gone {
+    pub pid: u64,
+    pub length: u8,
+}
+
 // Takes the newest exit of record `i`, which has one: its message goes to the front of `buffer`.
-fn take_child(s: &mut [u8], z: Sizes, i: Index, buffer: &mut [u8]) -> Reply
+pub fn take_child(s: &mut [u8], z: Sizes, i: Index, buffer: &mut [u8]) -> Gone
     requires { ⌜ ChildAsks z (now s) i (now buffer) ⌝ }
-    ensures { λ a. ⌜ TookChild z (now (s .entry)) (now (s .exit)) i (now (buffer .entry)) (now (buffer .exit)) a ⌝ }
+    ensures { λ g. ⌜ TookChild z (now (s .entry)) (now (s .exit)) i (now (buffer .entry)) (now (buffer .exit)) g ⌝ }
 {
     let first = state::get16(s, z, state::PROCESS, state::EXITS, i);
     let pid = state::get64(s, z, state::CELL, state::EXIT_PID, first - 1);
     let length = copy_message(s, z, first - 1, buffer);
     waitq::take_exit(s, z, i);
-    Reply::Child { pid, length }
+    Gone { pid, length }
 }
 
 // Waits for a child of the running process `i`: the newest exit, or asleep until there is one.
@@ -55,7 +61,13 @@ fn pwait(s: &mut [u8], z: Sizes, i: Index, buffer: &mut [u8]) -> Reply
     match w {
         WaitState::InUse => Reply::Refused { number: 14 },
         WaitState::NoChild => Reply::Refused { number: 15 },
-        WaitState::Take => take_child(s, z, i, buffer),
+        WaitState::Take => {
+            let child = take_child(s, z, i, buffer);
+            Reply::Child {
+                pid: child.pid,
+                length: child.length,
+            }
+        }
         WaitState::Sleep => {
             wait_asleep(s, z, i);
             Reply::Asleep

@@ -128,7 +128,7 @@ fn load_name(s: &[u8], z: Sizes, i: Index) -> [u8; 28]
 }
 
 // The call of record `i`.
-fn load_resume(s: &[u8], z: Sizes, i: Index) -> Resume
+pub fn load_resume(s: &[u8], z: Sizes, i: Index) -> Resume
     requires { ⌜ LoadAsks z (now s) i ⌝ }
     ensures { λ r. ⌜ ResumeLoaded z (now (s .entry)) i r ⌝ }
 {
@@ -240,7 +240,7 @@ pub fn store_resume(s: &mut [u8], z: Sizes, i: Index, r: Resume)
 }
 
 // Stores the name.
-fn store_name(s: &mut [u8], z: Sizes, i: Index, text: [u8; 28])
+pub fn store_name(s: &mut [u8], z: Sizes, i: Index, text: [u8; 28])
     requires { ⌜ LoadAsks z (now s) i ⌝ }
     ensures { λ _. ⌜ Wrote z (now (s .entry)) (now (s .exit)) (nameStores (28 * i) text) ⌝ }
 {
