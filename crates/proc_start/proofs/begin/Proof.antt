@@ -1,0 +1,28 @@
+-- `proc_start::begin` meets its contract: each need by its law.
+use Rattle.proc_start.specs.Start.{begin-link, begin-alloc, begin-ready, begun}
+use borrow.Author.Needs.{needs}
+use Rattle.proc_start.proofs.begin.Statement.{statement}
+use Rattle.proc_start.proofs.begin.Tie as tie
+
+orphan-requires : tie.Need-orphan-requires
+orphan-requires c κs = search needs
+
+alloc-requires : tie.Need-alloc-requires
+alloc-requires c κs = search begin-alloc
+
+sub-ready : tie.Need-sub-ready
+sub-ready c = search begin-link
+
+ready-requires : tie.Need-ready-requires
+ready-requires c κs = search begin-ready
+
+same-length : tie.Need-same-length
+same-length c = search needs
+
+returns : tie.Need-returns
+returns c = search begun
+
+pub begin-spec : {M : Type 1} → statement M
+begin-spec =
+    tie.close
+    (tie.spec orphan-requires alloc-requires sub-ready ready-requires same-length returns)

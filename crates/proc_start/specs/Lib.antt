@@ -1,0 +1,2 @@
+-- What the steps of this crate ask and ensure.
+pub mod Start
