@@ -3,11 +3,12 @@
 #   1. the files are in the formatter's layout;
 #   2. on each fixed list in lists/ the definition computes the kept listing, and every answer and number arises in one of them;
 #   3. demand 3, as it is stated, does not hold of wrong machines;
-#   4. where the Rust is at hand (the folder R9_SRC, from the repository's top, by default ../shared/docs/src/port/src): the kept
+#   4. the operations on the lent state do in small scenarios what 01 says, interpreted and compiled;
+#   5. where the Rust is at hand (the folder R9_SRC, from the repository's top, by default ../shared/docs/src/port/src): the kept
 #      listings are what the Rust gives today, they hold every step with each number that it can meet, the definition and the
 #      Rust give the same on lists that are not kept, made here, and `exit_message`, as C callers have it, and the Rust the same messages;
-#   5. where cargo is installed: `size`, `make` and `check`, as C callers have them, on many states against an independent reading;
-#   6. every crate is proved from nothing, every must-fail edit is refused, and every program writes what it must (`rt ci`).
+#   6. where cargo is installed: `size`, `make` and `check`, as C callers have them, on many states against an independent reading;
+#   7. every crate is proved from nothing, every must-fail edit is refused, and every program writes what it must (`rt ci`).
 set -euo pipefail
 cd "$(dirname "$0")"
 fail() { echo "test.sh: $*" >&2; exit 1; }
@@ -39,6 +40,7 @@ done
 definition/check.sh "${pairs[@]}"
 definition/arose.sh lists/*.listing
 definition/wrong.sh
+trials/run.sh
 
 if [ -d "$rust" ]; then
   (cd oracle && cargo build --quiet --release --offline) || fail "the oracle does not build"
