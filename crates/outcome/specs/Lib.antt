@@ -11,3 +11,4 @@ pub mod RefusalsTime
 pub mod RefusalsTsleep
 pub mod RefusalsMake
 pub mod RefusalsExit
+pub mod Took

@@ -30,6 +30,7 @@ use Rattle.clockwork.specs.Clock.{nowStores}
 use Rattle.outcome.specs.declared.Reply as code
 use Rattle.outcome.specs.declared.Reply.the-variants.{Fired, Refused}
 use Rattle.outcome.specs.Means.{means, told}
+use Rattle.outcome.specs.Took.{Took}
 use Rattle.outcome.specs.Stepped.{Well, Stepped, leftBytes}
 use Rattle.outcome.specs.Laws.{stepped-done, stepped-refused}
 use Rattle.outcome.specs.Refusals.{step}
@@ -37,10 +38,6 @@ use Rattle.outcome.specs.RefusalsRange.{range-intr}
 use Rattle.outcome.specs.RefusalsTime.{refused-intr-8, allowed-intr}
 use Rattle.proc_intr.specs.Due.{DueAsks}
 use Rattle.proc_intr.specs.Interrupt.{Interrupted}
-
--- A step that asks nothing of the interrupt mark: whether it is marked or not, this is what it does.
-pub record Took (z : Sizes) (s s′ : List ℕ) (b : Body) (r : code.Reply) : Type 0 where
-  pub stepped : (k : Bool) → Stepped z s s′ (step k b) [] r
 
 -- Every reading of 64 bits is in range.
 reading-in : (M : Machine) (reading : ℕ) → Fits w64 reading → inRange (M .sizes) (intr reading) ≡ true

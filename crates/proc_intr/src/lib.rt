@@ -9,7 +9,7 @@ ghost use Rattle.proc_intr.specs.Callback.{CallbackAsks, CalledBack};
 ghost use Rattle.proc_intr.specs.Fire.{FireAsks, Fired};
 ghost use Rattle.proc_intr.specs.Due.{DueAsks, FiredDue};
 ghost use Rattle.proc_intr.specs.Interrupt.{Interrupted};
-ghost use Rattle.proc_intr.specs.Step.{Took};
+ghost use Rattle.outcome.specs.Took.{Took};
 
 // The number of a call that is a `tsleep`.
 const TSLEEP: u8 = 2;

@@ -31,7 +31,7 @@ use Rattle.outcome.specs.Means.{means, told}
 use Rattle.outcome.specs.Stepped.{Well, leftBytes}
 use Rattle.outcome.specs.Laws.{stepped-done, stepped-refused}
 use Rattle.outcome.specs.RefusalsTime.{refused-clock-8, allowed-clock}
-use Rattle.proc_timer.specs.Took.{Took}
+use Rattle.outcome.specs.Took.{Took}
 use Rattle.proc_timer.specs.After.{AfterAsks, AddedAfter}
 
 -- Whether a reading is refused; one that is not is small.

@@ -20,7 +20,7 @@ use Rattle.outcome.specs.Stepped.{Well}
 use Rattle.outcome.specs.Laws.{stepped-done}
 use Rattle.outcome.specs.Refusals.{step}
 use Rattle.outcome.specs.RefusalsTime.{allowed-tdel}
-use Rattle.proc_timer.specs.Took.{Took}
+use Rattle.outcome.specs.Took.{Took}
 
 -- The state is well formed, and t is a kernel timer other than timer 0.
 pub record KernelAsks (z : Sizes) (s : List ℕ) (t : ℕ) : Type 0 where

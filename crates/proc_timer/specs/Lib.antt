@@ -1,5 +1,4 @@
 -- What the steps of timers and the clock ask and ensure.
-pub mod Took
 pub mod Del
 pub mod After
 pub mod Clock

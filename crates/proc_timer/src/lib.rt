@@ -7,7 +7,7 @@ use state::Sizes;
 ghost use mathlib.Core.Bool.{false};
 ghost use Rattle.machine.specs.Step.{tdel, clock};
 ghost use Rattle.outcome.specs.Stepped.{Well};
-ghost use Rattle.proc_timer.specs.Took.{Took};
+ghost use Rattle.outcome.specs.Took.{Took};
 ghost use Rattle.proc_timer.specs.Del.{KernelAsks};
 ghost use Rattle.proc_timer.specs.After.{AfterAsks, AddedAfter};
 ghost use Rattle.proc_timer.specs.Clock.{BadNow};

@@ -38,16 +38,13 @@ use Rattle.clockwork.specs.Conditions.{conditionStores}
 use Rattle.outcome.specs.declared.Reply as code
 use Rattle.outcome.specs.declared.Reply.the-variants.{Done, Yes, No, Refused}
 use Rattle.outcome.specs.Means.{means, told, statusOf}
+use Rattle.outcome.specs.Took.{Took}
 use Rattle.outcome.specs.Stepped.{Well, Stepped, leftBytes}
 use Rattle.outcome.specs.Laws.{stepped-done, stepped-refused}
 use Rattle.outcome.specs.Refusals.{step}
 use Rattle.outcome.specs.RefusalsRun.{refusal-wakeup, refusal-cond}
 use Rattle.outcome.specs.RefusalsLock.{refusal-canqlock, refusal-qunlock}
 use Rattle.outcome.specs.RefusalsTime.{refusal-due}
-
--- A step that asks nothing of the interrupt mark: whether it is marked or not, this is what it does.
-pub record Took (z : Sizes) (s s′ : List ℕ) (b : Body) (r : code.Reply) : Type 0 where
-  pub stepped : (k : Bool) → Stepped z s s′ (step k b) [] r
 
 -- The state is well formed, and there is such a Rendez, or lock.
 pub record RendezAsks (z : Sizes) (s : List ℕ) (r : ℕ) : Type 0 where

@@ -5,7 +5,8 @@ use state::Index;
 use state::Sizes;
 ghost use Rattle.machine.specs.Step.{wakeup, canqlock, qunlock, due};
 ghost use Rattle.outcome.specs.Stepped.{Well};
-ghost use Rattle.proc_wake.specs.Steps.{RendezAsks, LockAsked, Took, CondTook};
+ghost use Rattle.outcome.specs.Took.{Took};
+ghost use Rattle.proc_wake.specs.Steps.{RendezAsks, LockAsked, CondTook};
 
 // Wakes the process asleep on Rendez `r`.
 pub fn wakeup(s: &mut [u8], z: Sizes, r: Index) -> Reply
