@@ -2,26 +2,22 @@
 use mathlib.Core.Path.{_≡_, refl, sym, ap, subst, _∙_}
 use mathlib.Core.Bool.{Bool, true, false, not}
 use mathlib.Core.List.{List, []}
-use mathlib.Core.Option.{Option, none, some}
-use Prim.Native.Nat.{ℕ, zero, suc, _+_, _≤_, _<_}
+use Prim.Native.Nat.{ℕ, _+_, _<_}
 use native.Mathlib.Omega.{arith}
 use borrow.Author.Tests.{not-true, not-false}
 use Rattle.machine.specs.Basics.{if_then_else_}
-use Rattle.machine.specs.Machine.{Machine, process, pidOf, condition}
-use Rattle.machine.specs.Outcome.{Answer, Outcome, answer, openOutcome}
+use Rattle.machine.specs.Machine.{Machine, pidOf, condition}
+use Rattle.machine.specs.Outcome.{Answer, Outcome, answer}
 use Rattle.machine.specs.Timers.{delete, isQueued, ownTimer}
-use Rattle.machine.specs.Perform.{runs, checksAgain, tsleepChecks, openPerform}
+use Rattle.machine.specs.Perform.{runs, checksAgain, tsleepChecks}
 use Rattle.layout.specs.Memory.{Memory}
 use Rattle.state.specs.Fields as fields
 use Rattle.state.specs.Abs.{runList, waiterList, waitsOn, machineOf}
 use Rattle.state.specs.Places.{sizesIn, memIn}
 use Rattle.state.specs.declared.Sizes.{Sizes}
-use Rattle.holds.specs.Holds.{Holds}
-use Rattle.holds.specs.Whole.{holds-bounds}
 use Rattle.holds.specs.Did.{machineIn}
 use Rattle.places.specs.Nowhere.{Nowhere}
 use Rattle.places.specs.Rendez.{CallsRendez}
-use Rattle.dat.specs.Asleep.{asleepIn}
 use Rattle.timer.specs.Only.{Owing}
 use Rattle.timer.specs.Del.{TimerAsks, Deleted, delMem}
 use Rattle.timer.specs.Queued.{IsQueued}
@@ -110,6 +106,13 @@ out-runs {z} {s} {s₁} {s₂} {i} {a} l d o =
           (d .machine ∙ ap (λ (t : ℕ). delete t (machineIn z s)) (sym (own-is z s i))) (o .went);
     }
 
+-- The same for a `tsleep`; nobody is to be there only while its timer is queued.
+pub record TsleepAsks (z : Sizes) (s : List ℕ) (i r c : ℕ) : Type 0 where
+  pub limbo : Limbo z s i
+  pub call : CallsRendez (memIn z s) r i
+  pub index : r < z .rendez
+  pub empty : isQueued (ownTimer i (machineIn z s)) (machineIn z s) ≡ true → condition (machineIn z s) c ≡ false → memIn z s fields.sleeperOf r ≡ 0
+
 -- The whole of a `tsleep`'s check.
 pub record TsleepChecked (z : Sizes) (s s′ : List ℕ) (i r c : ℕ) (a : code.Reply) : Type 0 where
   pub went
@@ -124,32 +127,43 @@ untimed : (m : Machine) (i r : ℕ) → tsleepChecks false i r m ≡ checksAgain
 unfolding tsleepChecks
 untimed m i r = refl
 
-pub tsleep-queued : {z : Sizes} {s : List ℕ} {i r c : ℕ} → CheckAsks z s i r c → TimerAsks z s (z .timers + i)
+pub tsleep-queued : {z : Sizes} {s : List ℕ} {i r c : ℕ} → TsleepAsks z s i r c → TimerAsks z s (z .timers + i)
 tsleep-queued k = out-del (k .limbo)
 
-pub check-small : {z : Sizes} {s : List ℕ} {i r c : ℕ} → CheckAsks z s i r c → z .timers + i < 65536
-check-small k = out-small (k .limbo)
+pub tsleep-small : {z : Sizes} {s : List ℕ} {i r c : ℕ} → TsleepAsks z s i r c → z .timers + i < 65536
+tsleep-small k = out-small (k .limbo)
 
-pub tsleep-limbo : {z : Sizes} {s : List ℕ} {i r c : ℕ} → CheckAsks z s i r c → Limbo z s i
+pub tsleep-limbo : {z : Sizes} {s : List ℕ} {i r c : ℕ} → TsleepAsks z s i r c → Limbo z s i
 tsleep-limbo k = k .limbo
 
-own-queued : {z : Sizes} {s : List ℕ} {q : Bool} (i : ℕ) → IsQueued z s (z .timers + i) q → isQueued (ownTimer i (machineIn z s)) (machineIn z s) ≡ q
+pub own-queued : {z : Sizes} {s : List ℕ} {q : Bool} (i : ℕ) → IsQueued z s (z .timers + i) q → isQueued (ownTimer i (machineIn z s)) (machineIn z s) ≡ q
 own-queued {z} {s} i h = ap (λ (t : ℕ). isQueued t (machineIn z s)) (own-is z s i) ∙ sym (h .answer)
+
+pub tsleep-again
+    : {z : Sizes} {s : List ℕ} {i r c : ℕ} {q t : Bool}
+    → TsleepAsks z s i r c → IsQueued z s (z .timers + i) q → not q ≡ false → Condition z s c t → t ≡ false → AgainAsks z s i r
+tsleep-again {i = i} {q = q} k h d g e =
+    record {
+      limbo = k .limbo;
+      call = k .call;
+      index = k .index;
+      empty = k .empty (own-queued i h ∙ not-false q d) (sym (g .answer) ∙ e);
+    }
 
 pub tsleep-fired
     : {z : Sizes} {s s₁ : List ℕ} {i r c : ℕ} {q : Bool} {a : code.Reply}
-    → CheckAsks z s i r c → IsQueued z s (z .timers + i) q → not q ≡ true → TimedOut z s s₁ i a → TsleepChecked z s s₁ i r c a
+    → TsleepAsks z s i r c → IsQueued z s (z .timers + i) q → not q ≡ true → TimedOut z s s₁ i a → TsleepChecked z s s₁ i r c a
 tsleep-fired {z} {s} {s₁} {i} {r} {c} {q} {a} k h e o =
     record { went = rw (own-queued i h ∙ not-true q e, timed (machineIn z s) i r) (o .went) }
 
 pub tsleep-true
     : {z : Sizes} {s s₁ : List ℕ} {i r c : ℕ} {q t : Bool} {a : code.Reply}
-    → CheckAsks z s i r c → IsQueued z s (z .timers + i) q → not q ≡ false → Condition z s c t → t ≡ true → TimedOut z s s₁ i a → TsleepChecked z s s₁ i r c a
+    → TsleepAsks z s i r c → IsQueued z s (z .timers + i) q → not q ≡ false → Condition z s c t → t ≡ true → TimedOut z s s₁ i a → TsleepChecked z s s₁ i r c a
 tsleep-true {z} {s} {s₁} {i} {r} {c} {q} {t} {a} k h e g d o =
     record { went = rw (own-queued i h ∙ not-false q e, sym (g .answer) ∙ d, timed (machineIn z s) i r) (o .went) }
 
 pub tsleep-sleeps
     : {z : Sizes} {s s₁ : List ℕ} {i r c : ℕ} {q t : Bool} {a : code.Reply}
-    → CheckAsks z s i r c → IsQueued z s (z .timers + i) q → not q ≡ false → Condition z s c t → t ≡ false → SleptAgain z s s₁ i r a → TsleepChecked z s s₁ i r c a
+    → TsleepAsks z s i r c → IsQueued z s (z .timers + i) q → not q ≡ false → Condition z s c t → t ≡ false → SleptAgain z s s₁ i r a → TsleepChecked z s s₁ i r c a
 tsleep-sleeps {z} {s} {s₁} {i} {r} {c} {q} {t} {a} k h e g d o =
     record { went = rw (own-queued i h ∙ not-false q e, sym (g .answer) ∙ d, untimed (machineIn z s) i r) (o .went) }

@@ -1,18 +1,17 @@
 -- A process that was taken off the run queue: it runs, or sleeps on its Rendez again.
-use mathlib.Core.Path.{_≡_, refl, sym, ap, subst, _∙_}
-use mathlib.Core.Bool.{Bool, true, false}
+use mathlib.Core.Path.{_≡_, refl, sym, ap, _∙_}
+use mathlib.Core.Bool.{false}
 use mathlib.Core.List.{List, [], _∷_}
-use mathlib.Core.Option.{Option, none, some}
-use Prim.Native.Nat.{ℕ, zero, suc, _≤_, _<_}
+use mathlib.Core.Option.{none, some}
+use Prim.Native.Nat.{ℕ, zero, suc, _<_}
 use native.Mathlib.Omega.{arith}
-use lib.ListN.{length, getD, set}
+use lib.ListN.{getD, set}
 use Rattle.machine.specs.Machine as machine
-use Rattle.machine.specs.Machine.{Machine, Process, free, process, pidOf}
+use Rattle.machine.specs.Machine.{Machine, free, process, pidOf}
 use Rattle.machine.specs.Outcome.{Answer, Outcome, answer, openOutcome}
 use Rattle.machine.specs.Update.{withUp, withProcess, withResume, withSleeper}
 use Rattle.machine.specs.Places.{sleepOn}
 use Rattle.machine.specs.Perform.{runs, checksAgain, openPerform}
-use Rattle.layout.specs.Memory.{Memory}
 use Rattle.state.specs.Fields as fields
 use Rattle.state.specs.Abs.{linkTo, machineOf}
 use Rattle.state.specs.Places.{sizesIn, memIn}

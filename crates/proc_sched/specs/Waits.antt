@@ -1,31 +1,28 @@
 -- A process woken from its `wait`: what the code shows at each return.
 use mathlib.Core.Path.{_≡_, refl, sym, ap, ap₂, subst, _∙_}
-use mathlib.Core.Bool.{Bool, true, false}
+use mathlib.Core.Bool.{true, false}
 use mathlib.Core.List.{List, [], _∷_, _++_}
-use mathlib.Core.Option.{Option, none, some}
-use Prim.Native.Nat.{ℕ, zero, suc, _-_, _≤_, _<_}
+use mathlib.Core.Option.{none, some}
+use Prim.Native.Nat.{ℕ, _-_, _≤_, _<_}
 use native.Mathlib.Omega.{arith}
 use lib.ListN.{length, take, drop, set}
 use lib.Seq.{take-length}
-use Rattle.machine.specs.Basics.{if_then_else_, isEmpty}
+use Rattle.machine.specs.Basics.{isEmpty}
 use Rattle.machine.specs.Machine as machine
-use Rattle.machine.specs.Machine.{Machine, Process, Exit, free, process, pidOf}
+use Rattle.machine.specs.Machine.{Machine, Process, Exit, process, pidOf}
 use Rattle.machine.specs.Outcome.{Answer, Outcome, answer, openOutcome}
 use Rattle.machine.specs.Update.{withUp, withProcess, withResume, withOnWaitr}
 use Rattle.machine.specs.Places.{sleepOnWaitr}
 use Rattle.machine.specs.Perform.{runs, waitChecks, takeExit, newest, openPerform}
 use Rattle.layout.specs.Memory.{Memory}
 use Rattle.state.specs.Fields as fields
-use Rattle.state.specs.Abs.{runList, waiterList, waitsOn, machineOf, resumeOf}
+use Rattle.state.specs.Abs.{runList, waiterList, waitsOn, resumeOf}
 use Rattle.state.specs.Places.{sizesIn, memIn}
-use Rattle.state.specs.WellFormed.{Used}
 use Rattle.state.specs.declared.Sizes.{Sizes}
 use Rattle.exact.specs.Parts.{used-of, pid-of}
-use Rattle.holds.specs.Holds.{Holds}
 use Rattle.holds.specs.Whole.{holds-bounds}
 use Rattle.holds.specs.Did.{machineIn}
 use Rattle.places.specs.Nowhere.{Nowhere}
-use Rattle.dat.specs.Asleep.{asleepIn}
 use Rattle.dat.specs.Waitr.{WaitAsks, Waited}
 use Rattle.waitq.specs.Push.{headStores}
 use Rattle.waitq.specs.Pop.{popStores, unlinkStores}
@@ -36,7 +33,7 @@ use Rattle.outcome.specs.declared.Reply.the-variants.{RunChild, Asleep}
 use Rattle.outcome.specs.Means.{means, told}
 use Rattle.proc_wait.specs.declared.Gone.{Gone}
 use Rattle.proc_wait.specs.Wait.{ChildAsks, TookChild}
-use Rattle.proc_sched.specs.Limbo.{Limbo, Went, Dispatched, limbo-low, up-none, stays}
+use Rattle.proc_sched.specs.Limbo.{Limbo, Went, Dispatched, limbo-low, up-none}
 
 -- There is an exit, and room for its message.
 pub record FinishAsks (z : Sizes) (s : List ℕ) (i : ℕ) (b : List ℕ) : Type 0 where

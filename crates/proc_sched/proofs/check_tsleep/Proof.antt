@@ -1,12 +1,12 @@
 -- `proc_sched::check_tsleep` meets its contract: each need by its law.
-use Rattle.proc_sched.specs.Check.{check-again, check-small, tsleep-fired, tsleep-queued, tsleep-sleeps, tsleep-true}
+use Rattle.proc_sched.specs.Check.{tsleep-again, tsleep-small, tsleep-fired, tsleep-queued, tsleep-sleeps, tsleep-true}
 use native.Mathlib.Omega.{arith}
 use borrow.Author.Needs.{needs}
 use Rattle.proc_sched.proofs.check_tsleep.Statement.{statement}
 use Rattle.proc_sched.proofs.check_tsleep.Tie as tie
 
 add-is-queued : tie.Need-add-is-queued
-add-is-queued c = omega (arith, check-small)
+add-is-queued c = omega (arith, tsleep-small)
 
 is-queued-requires : tie.Need-is-queued-requires
 is-queued-requires c κs = search tsleep-queued
@@ -33,7 +33,10 @@ returns-2 : tie.Need-returns-2
 returns-2 c = search tsleep-true
 
 sleep-again-requires : tie.Need-sleep-again-requires
-sleep-again-requires c κs = check-again (c .before .before .before .before .before .before .before .before .pre) (c .before .before .condition .ensures) (c .before .if2 .left)
+sleep-again-requires c κs =
+    tsleep-again (c .before .before .before .before .before .before .before .before .pre)
+    (c .before .before .before .before .before .is-queued .ensures) (c .before .before .before .before .if1 .left)
+    (c .before .before .condition .ensures) (c .before .if2 .left)
 
 same-length-3 : tie.Need-same-length-3
 same-length-3 c = search needs

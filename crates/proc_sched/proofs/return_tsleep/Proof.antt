@@ -1,7 +1,6 @@
 -- `proc_sched::return_tsleep` meets its contract: each need by its law.
 use Rattle.proc_sched.specs.Check.{out-small, out-del, out-limbo, out-runs}
 use native.Mathlib.Omega.{arith}
-use borrow.Author.Needs.{needs}
 use Rattle.proc_sched.proofs.return_tsleep.Statement.{statement}
 use Rattle.proc_sched.proofs.return_tsleep.Tie as tie
 
