@@ -49,16 +49,16 @@ stepped-done {z} {s} {s′} {x} {m} {r} e h a t k =
       left = λ n q. absurd (none-some (sym e ∙ refused-by (machineIn z s) x n q));
     }
 
--- A refusal with n, where it leaves everything.
-pub stepped-refused
-    : {z : Sizes} {s : List ℕ} {x : Step} {n : ℕ}
+-- A refusal with n.
+pub stepped-left
+    : {z : Sizes} {s s′ : List ℕ} {x : Step} {n : ℕ}
     → refusal (machineIn z s) x ≡ some n
-    → Holds z s 0
-    → leftBy n (x .body) (machineIn z s) ≡ machineIn z s
-    → leftBytes z s n (x .body) ≡ s
-    → Stepped z s s x [] (Refused n)
+    → Holds z s′ 0
+    → leftBy n (x .body) (machineIn z s) ≡ machineIn z s′
+    → leftBytes z s n (x .body) ≡ s′
+    → Stepped z s s′ x [] (Refused n)
 unfolding means told refusing
-stepped-refused {z} {s} {x} {n} e h l b =
+stepped-left {z} {s} {s′} {x} {n} e h l b =
     let d : stepOf (machineIn z s) x ≡ refusing n (leftBy n (x .body) (machineIn z s)) = step-refused (machineIn z s) x n e in
     record {
       holds = h;
@@ -70,3 +70,13 @@ stepped-refused {z} {s} {x} {n} e h l b =
           let y : n ≡ k = cc in
           sym b ∙ ap (λ (j : ℕ). leftBytes z s j (x .body)) y;
     }
+
+-- The same, where it leaves everything.
+pub stepped-refused
+    : {z : Sizes} {s : List ℕ} {x : Step} {n : ℕ}
+    → refusal (machineIn z s) x ≡ some n
+    → Holds z s 0
+    → leftBy n (x .body) (machineIn z s) ≡ machineIn z s
+    → leftBytes z s n (x .body) ≡ s
+    → Stepped z s s x [] (Refused n)
+stepped-refused e h l b = stepped-left e h l b

@@ -1,2 +1,3 @@
 -- What the steps of this crate ask and ensure.
+pub mod Begin
 pub mod Start

@@ -1,43 +1,38 @@
 -- start: what the code shows at each return.
 use mathlib.Core.Path.{_≡_, refl, sym, ap, ap₂, subst, _∙_}
 use mathlib.Core.Bool.{Bool, true, false}
-use mathlib.Core.List.{List, [], _∷_}
-use mathlib.Core.Option.{Option, none, some}
-use Prim.Native.Nat.{ℕ, zero, suc, _-_, _^_, _≤_, _<_}
+use mathlib.Core.List.{List, []}
+use mathlib.Core.Option.{some}
+use Prim.Native.Nat.{ℕ, suc, _-_, _^_, _≤_}
 use native.Mathlib.Omega.{arith}
 use borrow.Author.Tests.{eq-eqb, ne-eqb, le-leb}
-use lib.Dec.{eqb, leb}
-use lib.ListN.{length, replicate}
-use Rattle.machine.specs.Machine.{Machine}
+use lib.Dec.{eqb}
+use lib.ListN.{replicate}
 use Rattle.machine.specs.Step.{start, openStep}
-use Rattle.machine.specs.Table.{refusal, inRange, openTable}
+use Rattle.machine.specs.Table.{inRange, openTable}
 use Rattle.machine.specs.Outcome.{Answer, answer, openOutcome}
 use Rattle.machine.specs.Exits.{freeRecord}
-use Rattle.machine.specs.Places.{ready}
-use Rattle.machine.specs.Perform.{perform, made, openPerform}
+use Rattle.machine.specs.Perform.{made, openPerform}
 use Rattle.machine.specs.StepOf.{leftBy}
-use Rattle.layout.specs.Memory.{Memory}
 use Rattle.state.specs.Fields as fields
 use Rattle.state.specs.Abs.{linkTo, machineOf}
-use Rattle.state.specs.Places.{sizesIn, memIn}
+use Rattle.state.specs.Places.{memIn}
 use Rattle.state.specs.declared.Sizes.{Sizes}
 use Rattle.record.specs.declared.Proc.{Proc}
 use Rattle.exact.specs.Bounds.{at-most}
-use Rattle.holds.specs.Holds.{Holds}
 use Rattle.holds.specs.Whole.{holds-bounds}
 use Rattle.holds.specs.Did.{machineIn}
-use Rattle.dat.specs.Run.{ReadyAsks, Readied}
 use Rattle.free.specs.Asks.{RecordsIn, records-in}
 use Rattle.free.specs.FindRecord.{RecordFound}
 use Rattle.records.specs.GoodPids.{newcomer-orphan}
 use Rattle.records.specs.Names.{IsName, empty-name}
-use Rattle.records.specs.Alloc.{born, born-made, AllocAsks, AllocOne, Allocated}
 use Rattle.outcome.specs.declared.Reply as code
 use Rattle.outcome.specs.declared.Reply.the-variants.{Pid, Refused}
-use Rattle.outcome.specs.Means.{means, told, statusOf}
+use Rattle.outcome.specs.Means.{means, told}
 use Rattle.outcome.specs.Stepped.{Well, Stepped, leftBytes}
 use Rattle.outcome.specs.Laws.{stepped-done, stepped-refused}
 use Rattle.outcome.specs.Refusals.{step}
+use Rattle.proc_start.specs.Begin.{BeginAsks, Begun}
 use Rattle.outcome.specs.RefusalsMake.{refused-start-3, refused-start-12, refused-start-16, refused-start-11, allowed-start}
 
 -- No parent, and a name of zeros.
@@ -45,56 +40,6 @@ pub record Orphan (p : Proc) : Type 0 where
   pub parent : p .parent ≡ 0
   pub link : p .«parent_at» ≡ 0
   pub text : p .text ≡ replicate 28 0
-
--- There is a free record, and a pid.
-pub record BeginAsks (z : Sizes) (s : List ℕ) : Type 0 where
-  pub well : Well z s
-  pub at : ℕ
-  pub free : freeRecord (machineIn z s) ≡ some at
-  pub pid : memIn z s fields.nextPid 0 < 18446744073709551615
-
-pub record Begun (z : Sizes) (s s′ : List ℕ) : Type 0 where
-  pub holds : Holds z s′ 0
-  pub machine : machineIn z s′ ≡ made (replicate 28 0) 0 (machineIn z s)
-
-pub begin-alloc : {z : Sizes} {s : List ℕ} {p : Proc} → BeginAsks z s → Orphan p → AllocAsks z s p
-begin-alloc {z} {s} {p} a o =
-    record {
-      owed = 0;
-      holds = a .well .holds;
-      new = newcomer-orphan (holds-bounds (a .well .holds)) (a .well .good) (o .parent);
-      room = a .pid;
-      link = omega (arith, o .link);
-      text = subst IsName (sym (o .text)) empty-name;
-    }
-
-none-some : {n : ℕ} → none ≡ some n → ⊥
-none-some e = let d : _≡_ {A = ℕ} 0 1 = cc in omega arith
-
-begin-there : {z : Sizes} {s s₁ : List ℕ} {p : Proc} {r : ℕ} → BeginAsks z s → Allocated z s s₁ p r → r ≡ 0 → ⊥
-begin-there a l e = none-some (sym (l .none e .0) ∙ a .free)
-
-pub begin-link : {z : Sizes} {s s₁ : List ℕ} {p : Proc} {r : ℕ} → BeginAsks z s → Allocated z s s₁ p r → 1 ≤ r
-begin-link a l = omega (arith, begin-there a l)
-
-pub begin-ready : {z : Sizes} {s s₁ : List ℕ} {p : Proc} {r : ℕ} → BeginAsks z s → Allocated z s s₁ p r → ReadyAsks z s₁ (r - 1)
-begin-ready {z} {s} {s₁} {p} {r} a l =
-    let o : AllocOne z s s₁ p (r - 1) = l .one (begin-there a l) in
-    record { owed = 0; holds = o .did .holds 0 (a .well .holds); nowhere = o .nowhere }
-
-pub begun
-    : {z : Sizes} {s s₁ s₂ : List ℕ} {p : Proc} {r : ℕ}
-    → BeginAsks z s → Orphan p → Allocated z s s₁ p r → Readied z s₁ s₂ (r - 1) → Begun z s s₂
-begun {z} {s} {s₁} {s₂} {p} {r} a q l d =
-    let o : AllocOne z s s₁ p (r - 1) = l .one (begin-there a l) in
-    record {
-      holds = d .did .holds 0 (o .did .holds 0 (a .well .holds));
-      machine =
-          d .did .machine
-          ∙ ap (ready (r - 1)) (o .did .machine)
-          ∙ born-made (machineIn z s) (r - 1) p (o .found)
-          ∙ ap₂ (λ (x : List ℕ) (y : ℕ). made x y (machineIn z s)) (q .text) (q .parent);
-    }
 
 -- start
 pub record StartAsks (z : Sizes) (s : List ℕ) (M : ℕ) : Type 0 where
@@ -125,13 +70,13 @@ start-full {z} {s} {M} {l} {k} a f r e =
           stepped-refused (refused-start-12 (machineIn z s) k M (in-range a) f (sym (r .machine) ∙ ap linkTo e)) (a .well .holds) refl refl;
     }
 
-found-some : {z : Sizes} {s : List ℕ} {l : ℕ} → RecordFound z s l → (l ≡ 0 → ⊥) → freeRecord (machineIn z s) ≡ some (l - 1)
+pub found-some : {z : Sizes} {s : List ℕ} {l : ℕ} → RecordFound z s l → (l ≡ 0 → ⊥) → freeRecord (machineIn z s) ≡ some (l - 1)
 found-some {z} {s} {l} r ne = sym (r .machine) ∙ ap linkTo link
   where
     link : l ≡ suc (l - 1)
     link = omega arith
 
-pid-in : (z : Sizes) (s : List ℕ) → machineIn z s .nextPid ≡ memIn z s fields.nextPid 0
+pub pid-in : (z : Sizes) (s : List ℕ) → machineIn z s .nextPid ≡ memIn z s fields.nextPid 0
 unfolding machineOf
 pid-in z s = refl
 
@@ -147,7 +92,7 @@ start-last {z} {s} {M} {l} {p} {k} a f r ne e d =
           (a .well .holds) refl refl;
     }
 
-not-last : (z : Sizes) (s : List ℕ) {p : ℕ} → p ≡ memIn z s fields.nextPid 0 → (p ≡ 18446744073709551615 → ⊥) → eqb (machineIn z s .nextPid) (2 ^ 64 - 1) ≡ false
+pub not-last : (z : Sizes) (s : List ℕ) {p : ℕ} → p ≡ memIn z s fields.nextPid 0 → (p ≡ 18446744073709551615 → ⊥) → eqb (machineIn z s .nextPid) (2 ^ 64 - 1) ≡ false
 not-last z s e ne = ne-eqb (machineIn z s .nextPid) (2 ^ 64 - 1) (λ d. ne (e ∙ sym (pid-in z s) ∙ d))
 
 pub start-unmade
@@ -164,25 +109,30 @@ start-unmade {z} {s} {M} {l} {p} {k} a f r ne e d w =
     }
 
 pub start-begin
-    : {z : Sizes} {s : List ℕ} {M l p : ℕ}
-    → StartAsks z s M → RecordFound z s l → (l ≡ 0 → ⊥) → p ≡ memIn z s fields.nextPid 0 → (p ≡ 18446744073709551615 → ⊥) → BeginAsks z s
-start-begin {z} {s} {M} {l} {p} a r ne e d =
+    : {z : Sizes} {s : List ℕ} {M l p : ℕ} {q : Proc}
+    → StartAsks z s M → RecordFound z s l → (l ≡ 0 → ⊥) → p ≡ memIn z s fields.nextPid 0 → (p ≡ 18446744073709551615 → ⊥) → Orphan q
+    → BeginAsks z s q
+start-begin {z} {s} {M} {l} {p} {q} a r ne e d o =
     record {
-      well = a .well;
+      holds = a .well .holds;
+      new = newcomer-orphan (holds-bounds (a .well .holds)) (a .well .good) (o .parent);
       at = l - 1;
       free = found-some r ne;
       pid = omega (arith, e, d, at-most (holds-bounds (a .well .holds)) fields.nextPid 0);
+      link = omega (arith, o .link);
+      text = subst IsName (sym (o .text)) empty-name;
     }
 
 pub start-done
-    : {z : Sizes} {s s₁ : List ℕ} {M l p : ℕ} {k : Bool}
+    : {z : Sizes} {s s₁ : List ℕ} {M l p : ℕ} {k : Bool} {q : Proc}
     → StartAsks z s M → k ≡ false → RecordFound z s l → (l ≡ 0 → ⊥) → p ≡ memIn z s fields.nextPid 0 → (p ≡ 18446744073709551615 → ⊥)
-    → M ≡ 0 → Begun z s s₁ → Started z s s₁ k M (Pid p)
+    → M ≡ 0 → Orphan q → Begun z s s₁ q → Started z s s₁ k M (Pid p)
 unfolding openPerform openOutcome means told
-start-done {z} {s} {s₁} {M} {l} {p} {k} a f r ne e d w b =
+start-done {z} {s} {s₁} {M} {l} {p} {k} {q} a f r ne e d w o b =
     record {
       stepped =
           stepped-done
           (allowed-start (machineIn z s) k M (in-range a) f (found-some r ne) (not-last z s e d) (eq-eqb M 0 w))
-          (b .holds) (ap (λ (n : ℕ). answer (Answer.pid n)) (e ∙ sym (pid-in z s))) refl (b .machine);
+          (b .holds) (ap (λ (n : ℕ). answer (Answer.pid n)) (e ∙ sym (pid-in z s))) refl
+          (b .machine ∙ ap₂ (λ (x : List ℕ) (y : ℕ). made x y (machineIn z s)) (o .text) (o .parent));
     }

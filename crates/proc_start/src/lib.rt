@@ -3,7 +3,8 @@ use outcome::Reply;
 use record::Proc;
 use record::Resume;
 use state::Sizes;
-ghost use Rattle.proc_start.specs.Start.{Orphan, BeginAsks, Begun, StartAsks, Started};
+ghost use Rattle.proc_start.specs.Begin.{BeginAsks, Begun};
+ghost use Rattle.proc_start.specs.Start.{Orphan, StartAsks, Started};
 
 // The record of a process with no parent and no name.
 fn orphan() -> Proc
@@ -27,12 +28,11 @@ fn orphan() -> Proc
     }
 }
 
-// A new process with no parent is made, and is ready; there is a free record and a pid.
-fn begin(s: &mut [u8], z: Sizes)
-    requires { ⌜ BeginAsks z (now s) ⌝ }
-    ensures { λ _. ⌜ Begun z (now (s .entry)) (now (s .exit)) ⌝ }
+// A new process with the name and the parent of `p` is made, and is ready; there is a free record and a pid.
+pub fn begin(s: &mut [u8], z: Sizes, p: Proc)
+    requires { ⌜ BeginAsks z (now s) p ⌝ }
+    ensures { λ _. ⌜ Begun z (now (s .entry)) (now (s .exit)) p ⌝ }
 {
-    let p = orphan();
     let link = records::alloc(s, z, p);
     dat::ready(s, z, link - 1);
 }
@@ -56,6 +56,7 @@ pub fn start(s: &mut [u8], z: Sizes, marked: bool, how: u8) -> Reply
     if how != 0 {
         return Reply::Refused { number: 11 };
     }
-    begin(s, z);
+    let p = orphan();
+    begin(s, z, p);
     Reply::Pid { pid }
 }

@@ -1,14 +1,11 @@
 -- `proc_start::begin` meets its contract: each need by its law.
-use Rattle.proc_start.specs.Start.{begin-link, begin-alloc, begin-ready, begun}
+use Rattle.proc_start.specs.Begin.{begin-link, begin-ready, begun}
 use borrow.Author.Needs.{needs}
 use Rattle.proc_start.proofs.begin.Statement.{statement}
 use Rattle.proc_start.proofs.begin.Tie as tie
 
-orphan-requires : tie.Need-orphan-requires
-orphan-requires c κs = search needs
-
 alloc-requires : tie.Need-alloc-requires
-alloc-requires c κs = search begin-alloc
+alloc-requires c κs = search needs
 
 sub-ready : tie.Need-sub-ready
 sub-ready c = search begin-link
@@ -23,6 +20,4 @@ returns : tie.Need-returns
 returns c = search begun
 
 pub begin-spec : {M : Type 1} → statement M
-begin-spec =
-    tie.close
-    (tie.spec orphan-requires alloc-requires sub-ready ready-requires same-length returns)
+begin-spec = tie.close (tie.spec alloc-requires sub-ready ready-requires same-length returns)

@@ -31,8 +31,11 @@ same-length-3 c = search needs
 returns-4 : tie.Need-returns-4
 returns-4 c = search start-unmade
 
+orphan-requires : tie.Need-orphan-requires
+orphan-requires c κs = search needs
+
 begin-requires : tie.Need-begin-requires
-begin-requires c κs = start-begin (c .before .before .before .before .before .before .before .before .before .before .pre) (c .before .before .before .before .before .before .find-record .ensures) (c .before .before .before .before .before .if2 .left) (c .before .before .before .get64 .ensures) (c .before .before .if3 .left)
+begin-requires c κs = start-begin (c .before .before .before .before .before .before .before .before .before .before .before .pre) (c .before .before .before .before .before .before .before .find-record .ensures) (c .before .before .before .before .before .before .if2 .left) (c .before .before .before .before .get64 .ensures) (c .before .before .before .if3 .left) (c .before .orphan .ensures)
 
 same-length-4 : tie.Need-same-length-4
 same-length-4 c = search needs
@@ -53,6 +56,7 @@ start-spec =
     returns-3
     same-length-3
     returns-4
+    orphan-requires
     begin-requires
     same-length-4
     returns-5)
