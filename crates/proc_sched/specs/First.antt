@@ -94,6 +94,7 @@ module _ {z : Sizes} {s : List ℕ} {i : ℕ} {b : List ℕ} (a : FirstAsks z s 
         record {
           message = [];
           stepped = stepped-refused (refused-sched-5 (machineIn z s) false refl up (head ∙ sym (g .answer) ∙ e)) (a .well .holds) refl refl;
+          long = refl;
           buffer = refl;
         }
 
@@ -113,5 +114,6 @@ module _ {z : Sizes} {s : List ℕ} {i : ℕ} {b : List ℕ} (a : FirstAsks z s 
               (w .went .reply ∙ ap (λ (y : Outcome). y .reply) o)
               (w .went .told ∙ ap (λ (y : Outcome). told (y .reply)) o)
               (w .went .machine ∙ ap (λ (y : Outcome). y .after) o);
+          long = w .went .long;
           buffer = w .buffer;
         }

@@ -5,7 +5,7 @@ use mathlib.Core.List.{List, [], _∷_}
 use mathlib.Core.Option.{none, some}
 use Prim.Native.Nat.{ℕ, zero, suc, _<_}
 use native.Mathlib.Omega.{arith}
-use lib.ListN.{getD, set}
+use lib.ListN.{length, getD, set}
 use Rattle.machine.specs.Machine as machine
 use Rattle.machine.specs.Machine.{Machine, free, process, pidOf}
 use Rattle.machine.specs.Outcome.{Answer, Outcome, answer, openOutcome}
@@ -27,6 +27,7 @@ use Rattle.places.specs.Rendez.{CallsRendez}
 use Rattle.dat.specs.Asleep.{asleepIn}
 use Rattle.dat.specs.Own.{CallAsks, Called, RunAsks, Ran}
 use Rattle.dat.specs.Rendez.{SleepAsks, Slept}
+use Rattle.proc_wait.specs.Length.{lengthOf}
 use Rattle.outcome.specs.declared.Reply as code
 use Rattle.outcome.specs.declared.Reply.the-variants.{Run, Asleep}
 use Rattle.outcome.specs.Means.{means, told}
@@ -62,6 +63,7 @@ pub record Went (z : Sizes) (s′ : List ℕ) (o : Outcome) (m : List ℕ) (r : 
   pub holds : Holds z s′ 0
   pub reply : means r m [] ≡ o .reply
   pub told : m ≡ told (o .reply)
+  pub long : lengthOf r ≡ length m
   pub machine : machineIn z s′ ≡ o .after
 
 pub record RunsOn (z : Sizes) (s s′ : List ℕ) (i : ℕ) (r : code.Reply) : Type 0 where
@@ -72,7 +74,7 @@ pub runs-on
 unfolding openPerform openOutcome means told
 runs-on {z} {s} {s₁} {i} {p} l e d =
     let q : p ≡ pidOf (machineIn z s) i = e ∙ sym (pid-of (holds-bounds (l .holds)) i) in
-    record { went = record { holds = d .holds; reply = ap (λ (n : ℕ). answer (Answer.run n)) q; told = refl; machine = d .machine } }
+    record { went = record { holds = d .holds; reply = ap (λ (n : ℕ). answer (Answer.run n)) q; told = refl; long = refl; machine = d .machine } }
 
 -- Its call is a `sleep` or `tsleep` on Rendez r, where nobody is.
 pub record AgainAsks (z : Sizes) (s : List ℕ) (i r : ℕ) : Type 0 where
@@ -138,6 +140,7 @@ slept-again {z} {s} {s₁} {i} {r} a p =
             holds = p .did .holds 0 (a .limbo .holds);
             reply = refl;
             told = refl;
+            long = refl;
             machine = p .did .machine ∙ sym (sleeps-same (machineIn z s) i r (up-none (a .limbo)));
           };
     }

@@ -19,6 +19,7 @@ use Rattle.state.specs.Abs.{machineOf}
 use Rattle.state.specs.Places.{memIn}
 use Rattle.state.specs.declared.Sizes.{Sizes}
 use Rattle.holds.specs.Did.{machineIn}
+use Rattle.proc_wait.specs.Length.{lengthOf}
 use Rattle.outcome.specs.declared.Reply as code
 use Rattle.outcome.specs.declared.Reply.the-variants.{Idle, End, Refused}
 use Rattle.outcome.specs.Means.{means, told, statusOf}
@@ -33,6 +34,7 @@ use Rattle.proc_sched.specs.Turning.{sched-nobody}
 pub record SchedTook (z : Sizes) (s s′ : List ℕ) (k : Bool) (b b′ : List ℕ) (r : code.Reply) : Type 0 where
   pub message : List ℕ
   pub stepped : Stepped z s s′ (step k sched) message r
+  pub long : lengthOf r ≡ length message
   pub buffer : b′ ≡ message ++ drop (length message) b
 
 pub record SchedAsks (z : Sizes) (s b : List ℕ) : Type 0 where
@@ -47,6 +49,7 @@ pub record RestAsks (z : Sizes) (s : List ℕ) : Type 0 where
 
 pub record Rested (z : Sizes) (s : List ℕ) (r : code.Reply) : Type 0 where
   pub stepped : Stepped z s s (step false sched) [] r
+  pub long : lengthOf r ≡ 0
 
 -- Nobody runs, and i is the first in line.
 pub record FirstAsks (z : Sizes) (s : List ℕ) (i : ℕ) (b : List ℕ) : Type 0 where
@@ -70,9 +73,9 @@ module _ {z : Sizes} {s : List ℕ} {n : ℕ} (a : RestAsks z s) (e : n ≡ memI
   counted = omega (arith, e, a .well .holds .keeps .placed .asleep)
 
   rests : (x : Answer) (r : code.Reply) → (if eqb (asleep (machineIn z s)) 0 then Answer.end else Answer.idle) ≡ x
-      → means r [] [] ≡ answer x → [] ≡ told (answer x) → Rested z s r
+      → means r [] [] ≡ answer x → [] ≡ told (answer x) → lengthOf r ≡ 0 → Rested z s r
   unfolding openOutcome statusOf
-  rests x r q p t =
+  rests x r q p t l =
       let o : perform sched (machineIn z s) ≡ answered x (machineIn z s) =
       sched-done (machineIn z s) ∙ sched-nobody (machineIn z s) nobody ∙ ap (λ (y : Answer). answered y (machineIn z s)) q
       in
@@ -83,22 +86,23 @@ module _ {z : Sizes} {s : List ℕ} {n : ℕ} (a : RestAsks z s) (e : n ≡ memI
             (p ∙ ap (λ (y : Outcome). y .reply) (sym o))
             (t ∙ ap (λ (y : Outcome). told (y .reply)) (sym o))
             (ap (λ (y : Outcome). y .after) (sym o));
+        long = l;
       }
 
   pub rest-end : n ≡ 0 → Rested z s End
   unfolding means told
-  rest-end d = rests Answer.end End (rw (eq-eqb (asleep (machineIn z s)) 0 (sym counted ∙ d)) refl) refl refl
+  rest-end d = rests Answer.end End (rw (eq-eqb (asleep (machineIn z s)) 0 (sym counted ∙ d)) refl) refl refl refl
 
   pub rest-idle : (n ≡ 0 → ⊥) → Rested z s Idle
   unfolding means told
-  rest-idle d = rests Answer.idle Idle (rw (ne-eqb (asleep (machineIn z s)) 0 (λ q. d (counted ∙ q))) refl) refl refl
+  rest-idle d = rests Answer.idle Idle (rw (ne-eqb (asleep (machineIn z s)) 0 (λ q. d (counted ∙ q))) refl) refl refl refl
 
 -- What the code of `sched` shows.
 module _ {z : Sizes} {s b : List ℕ} {k : Bool} (a : SchedAsks z s b) where
   pub sched-marked : k ≡ true → SchedTook z s s k b b (Refused 3)
   unfolding leftBy leftBytes
   sched-marked e =
-      record { message = []; stepped = stepped-refused (refused-sched-3 (machineIn z s) k e) (a .well .holds) refl refl; buffer = refl }
+      record { message = []; stepped = stepped-refused (refused-sched-3 (machineIn z s) k e) (a .well .holds) refl refl; long = refl; buffer = refl }
 
   pub sched-runs : {u : ℕ} → k ≡ false → u ≡ memIn z s fields.up 0 → (u ≡ 0 → ⊥) → SchedTook z s s k b b (Refused 17)
   unfolding leftBy leftBytes
@@ -106,12 +110,13 @@ module _ {z : Sizes} {s b : List ℕ} {k : Bool} (a : SchedAsks z s b) where
       record {
         message = [];
         stepped = stepped-refused (refused-sched-17 (machineIn z s) k f (somebody-up z s u e ne)) (a .well .holds) refl refl;
+        long = refl;
         buffer = refl;
       }
 
   pub sched-rests : {r : code.Reply} → k ≡ false → Rested z s r → SchedTook z s s k b b r
   sched-rests {r} f w =
-      record { message = []; stepped = subst (λ (x : Bool). Stepped z s s (step x sched) [] r) (sym f) (w .stepped); buffer = refl }
+      record { message = []; stepped = subst (λ (x : Bool). Stepped z s s (step x sched) [] r) (sym f) (w .stepped); long = w .long; buffer = refl }
 
   pub sched-turns : {s₁ b₁ : List ℕ} {r : code.Reply} → k ≡ false → SchedTook z s s₁ false b b₁ r → SchedTook z s s₁ k b b₁ r
   sched-turns {s₁} {b₁} {r} f w = subst (λ (x : Bool). SchedTook z s s₁ x b b₁ r) (sym f) w

@@ -97,6 +97,7 @@ finished {z} {s} {s₁} {s₂} {i} {p} {b} {b₁} {g} f e t d =
                 ∙ ap₂ (λ (n k : ℕ). answer (Answer.runChild (pidOf (machineIn z s) i) n (take k (newest x .message)))) (t .pid) (t .long)
                 ∙ ap (λ (l : List ℕ). answer (Answer.runChild (pidOf (machineIn z s) i) (newest x .pid) l)) (take-length (newest x .message));
             told = refl;
+            long = t .long;
             machine = y;
           };
       buffer = t .buffer;
@@ -183,6 +184,7 @@ wait-slept {z} {s} {s₁} {i} {n} {b} a e d w =
             holds = w .did .holds 0 (a .limbo .holds);
             reply = sym (q .0);
             told = ap told (sym (q .0));
+            long = refl;
             machine = w .did .machine ∙ sym (again (machineIn z s) i (up-none (a .limbo)) (waiting a)) ∙ sym (q .1);
           };
       buffer = refl;

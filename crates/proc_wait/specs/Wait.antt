@@ -49,6 +49,7 @@ use Rattle.outcome.specs.RefusalsExit.{isWaiting as callWaits, waiting, noChild
 use Rattle.outcome.specs.Room.{well-room}
 use Rattle.proc_sleep.specs.Running.{nobody-up, somebody-up, link-up, current-is}
 use Rattle.proc_wait.specs.declared.Gone.{Gone}
+use Rattle.proc_wait.specs.Length.{lengthOf}
 use Rattle.proc_wait.specs.Copy.{CopyAsks, Copied, messageIn}
 use Rattle.proc_wait.specs.Sleep.{AloneAsks, WentAsleep}
 
@@ -56,6 +57,7 @@ use Rattle.proc_wait.specs.Sleep.{AloneAsks, WentAsleep}
 pub record WaitTook (z : Sizes) (s s′ : List ℕ) (k : Bool) (b b′ : List ℕ) (r : code.Reply) : Type 0 where
   pub message : List ℕ
   pub stepped : Stepped z s s′ (step k wait) message r
+  pub long : lengthOf r ≡ length message
   pub buffer : b′ ≡ message ++ drop (length message) b
 
 pub record WaitStepAsks (z : Sizes) (s b : List ℕ) : Type 0 where
@@ -71,7 +73,7 @@ pub record PwaitAsks (z : Sizes) (s : List ℕ) (i : ℕ) (b : List ℕ) : Type 
 pub wait-marked : {z : Sizes} {s b : List ℕ} {k : Bool} → WaitStepAsks z s b → k ≡ true → WaitTook z s s k b b (Refused 3)
 unfolding leftBy leftBytes
 wait-marked {z} {s} {b} {k} a e =
-    record { message = []; stepped = stepped-refused (refused-wait-3 (machineIn z s) k e) (a .well .holds) refl refl; buffer = refl }
+    record { message = []; stepped = stepped-refused (refused-wait-3 (machineIn z s) k e) (a .well .holds) refl refl; long = refl; buffer = refl }
 
 pub wait-nobody
     : {z : Sizes} {s b : List ℕ} {k : Bool} {u : ℕ} → WaitStepAsks z s b → k ≡ false → u ≡ memIn z s fields.up 0 → u ≡ 0 → WaitTook z s s k b b (Refused 4)
@@ -80,6 +82,7 @@ wait-nobody {z} {s} {b} {k} {u} a f e d =
     record {
       message = [];
       stepped = stepped-refused (refused-wait-4 (machineIn z s) k f (nobody-up z s u e d)) (a .well .holds) refl refl;
+      long = refl;
       buffer = refl;
     }
 
@@ -144,6 +147,7 @@ module _ {z : Sizes} {s : List ℕ} {i : ℕ} {b : List ℕ} {w : WaitState} (a 
         message = [];
         stepped =
             stepped-refused (refused-wait-14 (machineIn z s) false refl (runner a) (sym (waiting-is (here .resume)) ∙ shown InUse e)) (a .well .holds) refl refl;
+        long = refl;
         buffer = refl;
       }
 
@@ -157,6 +161,7 @@ module _ {z : Sizes} {s : List ℕ} {i : ℕ} {b : List ℕ} {w : WaitState} (a 
             stepped-refused
             (refused-wait-15 (machineIn z s) false refl (runner a) (sym (waiting-is (here .resume)) ∙ f .0) (rw (f .1, f .2)))
             (a .well .holds) refl refl;
+        long = refl;
         buffer = refl;
       }
 
@@ -210,6 +215,7 @@ pwait-asleep {z} {s} {s₁} {i} {b} {w} a h e d =
           stepped-done
           (allowed-wait (machineIn z s) false refl (runner a) (sym (waiting-is (p .resume)) ∙ f .0) (no-child (eqb (p .nchild) 0) (isEmpty (p .exits)) (f .2)))
           (d .holds) (sym (q .0)) (ap told (sym (q .0))) (d .machine ∙ sym (q .1));
+      long = refl;
       buffer = refl;
     }
 
@@ -270,6 +276,7 @@ pwait-took {z} {s} {s₁} {i} {b} {b₁} {w} {g} a h e d =
           stepped-done {m = newest p .message}
           (allowed-wait (machineIn z s) false refl (runner a) (sym (waiting-is (p .resume)) ∙ f .0) (no-exits (eqb (p .nchild) 0) (isEmpty (p .exits)) (f .1)))
           (d .holds) (m ∙ sym (q .0)) (ap told (sym (q .0))) (d .machine ∙ sym (q .1));
+      long = d .long;
       buffer = d .buffer;
     }
 
