@@ -56,6 +56,7 @@ updates-join m (w ∷ ws) ws′ = updates-join (upd m (w .field) (w .index) (w .
 pub record Stored (z : Sizes) (s s′ : List ℕ) (ws : List Write) (m : Memory) : Type 0 where
   pub state : State fields.layout1 (fields.mostOf (sizesIn z)) (fields.counts (sizesIn z)) s′
   pub bytes : s′ ≡ writes fields.layout1 (fields.counts (sizesIn z)) s ws
+  pub writable : Writable fields.layout1 (fields.mostOf (sizesIn z)) (fields.counts (sizesIn z)) ws
   pub memory : memIn z s′ ≡ m
 
 pub stores-done
@@ -71,6 +72,7 @@ stores-done {z} {s} {s′} {ws} {m} h ok w e =
           subst (State fields.layout1 (fields.mostOf (sizesIn z)) (fields.counts (sizesIn z))) (sym (w .bytes))
           (state-writes (ranges (sizesIn z) (h .sizes)) (h .state) ws ok);
       bytes = w .bytes;
+      writable = ok;
       memory = ap (memIn z) (w .bytes) ∙ written (ranges (sizesIn z) (h .sizes)) (h .state) ws ok ∙ e;
     }
 

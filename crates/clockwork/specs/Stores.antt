@@ -13,6 +13,7 @@ use Rattle.state.specs.Abs.{machineOf}
 use Rattle.state.specs.Places.{sizesIn, memIn, Wrote}
 use Rattle.state.specs.declared.Sizes.{Sizes}
 use Rattle.holds.specs.Holds.{Holds}
+use Rattle.holds.specs.Touched.{Touched}
 use Rattle.timer.specs.Only.{Owing, owing-after, Only, plain, only-none, only-set}
 use Rattle.timer.specs.Aside.{holds-plain}
 use Rattle.timer.specs.Del.{machineIn}
@@ -24,6 +25,7 @@ pub record Became (z : Sizes) (s s′ : List ℕ) (ws : List Write) (M : Machine
   pub wrote : Wrote z s s′ ws
   pub memory : memIn z s′ ≡ updates (memIn z s) ws
   pub machine : machineIn z s′ ≡ M
+  pub touched : Touched z s s′
 
 only-updates
     : {test : ℕ → Bool} {m m′ : Memory} (ws : List Write)
@@ -59,4 +61,5 @@ became {z} {s} {s′} {ws} {M} o w ok e q =
       wrote = w;
       memory = d;
       machine = ap (λ (k : Memory). machineOf (sizesIn z) k) d ∙ q;
+      touched = record { stores = ws; writable = ok; bytes = w .bytes };
     }

@@ -19,6 +19,7 @@ use Rattle.exact.specs.Parts.{sleeper-of, pid-of}
 use Rattle.holds.specs.Holds.{Holds}
 use Rattle.holds.specs.Whole.{holds-bounds}
 use Rattle.holds.specs.Did.{Did, did, did-join, did-as, did-nothing, machineIn, same, more, wrote-1, wrote-2}
+use Rattle.holds.specs.Touched.{Touched, touched-none, touched-did}
 use Rattle.places.specs.Nowhere.{Nowhere}
 use Rattle.places.specs.Others.{others, keeps-with}
 use Rattle.places.specs.Own.{asleepMem, asleep-nowhere}
@@ -51,6 +52,7 @@ pub record Woke (z : Sizes) (s s′ : List ℕ) (r l : ℕ) : Type 0 where
   pub machine : machineIn z s′ ≡ wake r (machineIn z s) .machine
   pub readied : pidsOf (memIn z s) l ≡ wake r (machineIn z s) .readied
   pub range : l ≤ z .processes
+  pub touched : Touched z s s′
 
 wake-none : (m : Machine) (r : ℕ) → sleeper m r ≡ none → (wake r m .machine ≡ m) × (wake r m .readied ≡ [])
 unfolding wake
@@ -75,6 +77,7 @@ woke-none {z} {s} {r} {l} a e d =
       machine = sym (wake-none (machineIn z s) r o .0);
       readied = sym (wake-none (machineIn z s) r o .1);
       range = omega arith;
+      touched = touched-none;
     }
 
 -- The store that takes the sleeper off.
@@ -149,6 +152,7 @@ woke-one {z} {s} {s₁} {s₂} {r} {l} a e ne p w =
           ∙ ap (λ (k : ℕ). k ∷ []) (sym (pid-of (holds-bounds (a .holds)) i))
           ∙ sym (wake-some (machineIn z s) r i o .1);
       range = omega (arith, e, at-most (holds-bounds (a .holds)) fields.sleeperOf r);
+      touched = touched-did d;
     }
 
 -- `sleep_on`: i, whose call is a `sleep` or `tsleep` on r, goes asleep there, where nobody is.

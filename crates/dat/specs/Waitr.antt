@@ -22,6 +22,7 @@ use Rattle.exact.specs.Parts.{waitr-of, pid-of}
 use Rattle.holds.specs.Holds.{Holds}
 use Rattle.holds.specs.Whole.{holds-bounds}
 use Rattle.holds.specs.Did.{Did, did, did-join, did-as, machineIn, same, more}
+use Rattle.holds.specs.Touched.{Touched, touched-none, touched-did}
 use Rattle.places.specs.Nowhere.{Nowhere, waits-state, waits-call}
 use Rattle.places.specs.Others.{others, keeps-with}
 use Rattle.places.specs.Own.{asleepMem, asleep-nowhere}
@@ -105,6 +106,7 @@ pub record WokeOwn (z : Sizes) (s s′ : List ℕ) (i : ℕ) (t : Bool) : Type 0
   pub holds : (n : ℕ) → Holds z s n → Holds z s′ n
   pub machine : machineIn z s′ ≡ wakeWaitr i (machineIn z s) .machine
   pub asleep : process (machineIn z s) i .onWaitr ≡ t
+  pub touched : Touched z s s′
 
 wakes-no : (m : Machine) (i : ℕ) → process m i .onWaitr ≡ false → wakeWaitr i m .machine ≡ m
 unfolding wakeWaitr
@@ -127,6 +129,7 @@ own-no {z} {s} {i} a e =
       holds = λ n h. h;
       machine = sym (wakes-no (machineIn z s) i o);
       asleep = o;
+      touched = touched-none;
     }
 
 pub own-not : {z : Sizes} {s : List ℕ} {i : ℕ} {t : Bool} → OwnAsks z s i → OnWaitr z s i t → not t ≡ true → WokeOwn z s s i false
@@ -190,4 +193,5 @@ own-woken {z} {s} {s₁} {s₂} {i} {t} a v e p w =
       holds = y .holds;
       machine = y .machine;
       asleep = o;
+      touched = touched-did y;
     }

@@ -38,7 +38,7 @@ pub record CellFits (w v : ℕ) (t : Bool) (c y : ℕ) (t₁ : Bool) (u : ℕ) :
   pub above : t ≡ true → y ≤ 18446744073709551615
   pub top : t ≡ true → t₁ ≡ true → u ≤ 18446744073709551615
 
-cell-writable
+pub cell-writable
     : (z : Sizes) (w v : ℕ) (t : Bool) (c y : ℕ) (t₁ : Bool) (u : ℕ)
     → CellFits w v t c y t₁ u
     → Writable fields.layout1 (fields.mostOf (sizesIn z)) (fields.counts (sizesIn z)) (cellWrites w v t c y t₁ u)

@@ -17,7 +17,7 @@ use Rattle.free.specs.Right.{CellWords}
 use Rattle.free.specs.Record.{wordOf, bitOf, bit-small}
 use Rattle.free.specs.Cell.{aboveOf, aboveBit, above-small, cell-in, drop-cell-room, drop-middle, drop-cell-top, drop-cells}
 use Rattle.free.specs.UseCell.{dropCellWrites, dropCellMem, DropCellAsks, DropCellDone}
-use Rattle.free.specs.CellStores.{CellFits, cell-done, after-first, after-second, one-store, two-stores, three-stores, top-range}
+use Rattle.free.specs.CellStores.{CellFits, cell-writable, cell-done, after-first, after-second, one-store, two-stores, three-stores, top-range}
 
 -- The words before, and the values that are stored.
 abbrev wordBefore : Sizes → List ℕ → ℕ → ℕ
@@ -72,6 +72,7 @@ module _ {z : Sizes} {s : List ℕ} {i : ℕ} (a : DropCellAsks z s i) where
       record {
         state = d .0;
         bytes = e;
+        writable = cell-writable z (wordOf (z .cells) i) (wordThen z s i) (isFull (wordBefore z s i)) (aboveOf (z .cells) i) (aboveThen z s i) (isFull (aboveBefore z s i)) (topThen z s i) fits;
         memory = d .1;
         words = λ g p r on off e′.
             record {

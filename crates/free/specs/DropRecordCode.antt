@@ -16,7 +16,7 @@ use Rattle.free.specs.Right.{RecordWords}
 use Rattle.free.specs.Asks.{StateIn, writesIn}
 use Rattle.free.specs.Record.{wordOf, bitOf, bit-small, word-in, drop-room, drop-top, drop-words}
 use Rattle.free.specs.UseRecord.{dropRecordWrites, dropRecordMem, DropRecordAsks, DropRecordDone}
-use Rattle.free.specs.RecordStores.{RecordFits, record-done, above-kept, one-store, two-stores, above-range}
+use Rattle.free.specs.RecordStores.{RecordFits, record-writable, record-done, above-kept, one-store, two-stores, above-range}
 
 -- The word before, and the values that are stored.
 abbrev wordBefore : Sizes → List ℕ → ℕ → ℕ
@@ -56,6 +56,7 @@ module _ {z : Sizes} {s : List ℕ} {i : ℕ} (a : DropRecordAsks z s i) where
       record {
         state = d .0;
         bytes = e;
+        writable = record-writable z (wordOf (z .processes) i) (wordThen z s i) (isFull (wordBefore z s i)) (aboveThen z s i) fits;
         memory = d .1;
         words = λ g p r on off e′.
             record {

@@ -29,7 +29,7 @@ pub record RecordFits (w v : ℕ) (t : Bool) (u : ℕ) : Type 0 where
   pub word : v ≤ 18446744073709551615
   pub above : t ≡ true → u ≤ 18446744073709551615
 
-record-writable
+pub record-writable
     : (z : Sizes) (w v : ℕ) (t : Bool) (u : ℕ)
     → RecordFits w v t u
     → Writable fields.layout1 (fields.mostOf (sizesIn z)) (fields.counts (sizesIn z)) (recordWrites w v t u)

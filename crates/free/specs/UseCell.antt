@@ -11,7 +11,7 @@ use Rattle.state.specs.Fields as fields
 use Rattle.state.specs.Places.{memIn}
 use Rattle.state.specs.WellFormed.{isFull}
 use Rattle.state.specs.declared.Sizes.{Sizes}
-use Rattle.free.specs.Asks.{StateIn, writesIn, CellsIn}
+use Rattle.free.specs.Asks.{StateIn, writesIn, WritableIn, CellsIn}
 use Rattle.free.specs.FindCell.{CellFound}
 use Rattle.free.specs.Record.{wordOf, bitOf, ElseSame}
 use Rattle.free.specs.Cell.{aboveOf, aboveBit}
@@ -95,11 +95,13 @@ found-cell-asks {z} {s} {r} a f ne = let h = f .free (r - 1) (omega arith) in us
 pub record UseCellDone (z : Sizes) (s s′ : List ℕ) (i : ℕ) : Type 0 where
   pub state : StateIn z s′
   pub bytes : s′ ≡ writesIn z s (useCellWrites (z .cells) (memIn z s) i)
+  pub writable : WritableIn z (useCellWrites (z .cells) (memIn z s) i)
   pub memory : memIn z s′ ≡ useCellMem (z .cells) (memIn z s) i
   pub words : (g p : ℕ → ℕ) → CellsIn z s g → g i ≡ 0 → 0 < p i → ElseSame i g p → CellsIn z s′ p
 
 pub record DropCellDone (z : Sizes) (s s′ : List ℕ) (i : ℕ) : Type 0 where
   pub state : StateIn z s′
   pub bytes : s′ ≡ writesIn z s (dropCellWrites (z .cells) (memIn z s) i)
+  pub writable : WritableIn z (dropCellWrites (z .cells) (memIn z s) i)
   pub memory : memIn z s′ ≡ dropCellMem (z .cells) (memIn z s) i
   pub words : (g p : ℕ → ℕ) → CellsIn z s g → 0 < g i → p i ≡ 0 → ElseSame i g p → CellsIn z s′ p

@@ -17,7 +17,7 @@ use Rattle.free.specs.Right.{CellWords}
 use Rattle.free.specs.Record.{wordOf, bitOf, bit-small}
 use Rattle.free.specs.Cell.{aboveOf, aboveBit, above-small, cell-in, take-cell-room, take-middle, take-cell-top, take-cells}
 use Rattle.free.specs.UseCell.{useCellWrites, useCellMem, UseCellAsks, UseCellDone}
-use Rattle.free.specs.CellStores.{CellFits, cell-done, after-first, after-second, one-store, two-stores, three-stores}
+use Rattle.free.specs.CellStores.{CellFits, cell-writable, cell-done, after-first, after-second, one-store, two-stores, three-stores}
 
 -- The values that are stored.
 abbrev wordThen : Sizes → List ℕ → ℕ → ℕ
@@ -54,6 +54,7 @@ module _ {z : Sizes} {s : List ℕ} {i : ℕ} (a : UseCellAsks z s i) where
       record {
         state = d .0;
         bytes = e;
+        writable = cell-writable z (wordOf (z .cells) i) (wordThen z s i) (isFull (wordThen z s i)) (aboveOf (z .cells) i) (aboveThen z s i) (isFull (aboveThen z s i)) (topThen z s i) fits;
         memory = d .1;
         words = λ g p r off on e′.
             record {

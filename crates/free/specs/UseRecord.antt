@@ -11,7 +11,7 @@ use Rattle.state.specs.Fields as fields
 use Rattle.state.specs.Places.{memIn}
 use Rattle.state.specs.WellFormed.{isFull}
 use Rattle.state.specs.declared.Sizes.{Sizes}
-use Rattle.free.specs.Asks.{StateIn, writesIn, RecordsIn}
+use Rattle.free.specs.Asks.{StateIn, writesIn, WritableIn, RecordsIn}
 use Rattle.free.specs.FindRecord.{RecordFound}
 use Rattle.free.specs.Record.{wordOf, bitOf, ElseSame}
 
@@ -78,11 +78,13 @@ found-asks {z} {s} {r} a f ne = let h = f .free (r - 1) (omega arith) in use-ask
 pub record UseRecordDone (z : Sizes) (s s′ : List ℕ) (i : ℕ) : Type 0 where
   pub state : StateIn z s′
   pub bytes : s′ ≡ writesIn z s (useRecordWrites (z .processes) (memIn z s) i)
+  pub writable : WritableIn z (useRecordWrites (z .processes) (memIn z s) i)
   pub memory : memIn z s′ ≡ useRecordMem (z .processes) (memIn z s) i
   pub words : (g p : ℕ → ℕ) → RecordsIn z s g → g i ≡ 0 → 0 < p i → ElseSame i g p → RecordsIn z s′ p
 
 pub record DropRecordDone (z : Sizes) (s s′ : List ℕ) (i : ℕ) : Type 0 where
   pub state : StateIn z s′
   pub bytes : s′ ≡ writesIn z s (dropRecordWrites (z .processes) (memIn z s) i)
+  pub writable : WritableIn z (dropRecordWrites (z .processes) (memIn z s) i)
   pub memory : memIn z s′ ≡ dropRecordMem (z .processes) (memIn z s) i
   pub words : (g p : ℕ → ℕ) → RecordsIn z s g → 0 < g i → p i ≡ 0 → ElseSame i g p → RecordsIn z s′ p

@@ -16,7 +16,7 @@ use Rattle.free.specs.Right.{RecordWords}
 use Rattle.free.specs.Asks.{StateIn, writesIn}
 use Rattle.free.specs.Record.{wordOf, bitOf, bit-small, word-in, take-room, take-top, take-words}
 use Rattle.free.specs.UseRecord.{useRecordWrites, useRecordMem, UseRecordAsks, UseRecordDone}
-use Rattle.free.specs.RecordStores.{RecordFits, record-done, above-kept, one-store, two-stores}
+use Rattle.free.specs.RecordStores.{RecordFits, record-writable, record-done, above-kept, one-store, two-stores}
 
 -- The values that are stored.
 abbrev wordThen : Sizes → List ℕ → ℕ → ℕ
@@ -46,6 +46,7 @@ module _ {z : Sizes} {s : List ℕ} {i : ℕ} (a : UseRecordAsks z s i) where
       record {
         state = d .0;
         bytes = e;
+        writable = record-writable z (wordOf (z .processes) i) (wordThen z s i) (isFull (wordThen z s i)) (aboveThen z s i) fits;
         memory = d .1;
         words = λ g p r off on e′.
             record {

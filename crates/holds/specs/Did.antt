@@ -30,11 +30,12 @@ same n = n
 abbrev pub more : ℕ → ℕ
 more n = suc n
 
--- The operation took bytes s to s′ by the stores ws: then the memory is k and the machine a; what was kept is kept, with
+-- The operation took bytes s to s′ by the stores ws, each in range: then the memory is k and the machine a; what was kept is kept, with
 -- `after n` owed where `before n` were.
 pub record Did (z : Sizes) (s s′ : List ℕ) (before after : ℕ → ℕ) (ws : List Write) (k : Memory) (a : Machine) : Type 0 where
   pub holds : (n : ℕ) → Holds z s (before n) → Holds z s′ (after n)
   pub bytes : s′ ≡ writesIn z s ws
+  pub writable : WritableIn z ws
   pub memory : memIn z s′ ≡ k
   pub machine : machineIn z s′ ≡ a
 
@@ -62,9 +63,15 @@ did {z} {s} {s′} {owed} {before} {after} ws k a h b ok e keeps m =
             keeps = subst (λ (y : Memory). Keeps (sizesIn z) y (after n)) (sym x) (keeps n (g .keeps));
           };
       bytes = b;
+      writable = ok;
       memory = x;
       machine = ap (machineOf (sizesIn z)) x ∙ m;
     }
+
+-- Stores in range, one run after another.
+pub writable-join : (z : Sizes) (ws ws′ : List Write) → WritableIn z ws → WritableIn z ws′ → WritableIn z (ws ++ ws′)
+writable-join z [] ws′ a b = b
+writable-join z (w ∷ ws) ws′ a b = (a .0, a .1, writable-join z ws ws′ (a .2) b)
 
 -- One operation after another.
 pub did-join
@@ -79,6 +86,7 @@ did-join {z} {s} {s₁} {s₂} {ws = ws} {ws′ = ws′} p q =
           q .bytes
           ∙ ap (λ (t : List ℕ). writesIn z t ws′) (p .bytes)
           ∙ sym (writes-join fields.layout1 (fields.counts (sizesIn z)) s ws ws′);
+      writable = writable-join z ws ws′ (p .writable) (q .writable);
       memory = q .memory;
       machine = q .machine;
     }
@@ -92,11 +100,17 @@ pub did-as
     → a ≡ b
     → Did z s s′ f g ws′ k′ b
 did-as {z} {s} p e d c =
-    record { holds = p .holds; bytes = p .bytes ∙ ap (writesIn z s) e; memory = p .memory ∙ d; machine = p .machine ∙ c }
+    record {
+      holds = p .holds;
+      bytes = p .bytes ∙ ap (writesIn z s) e;
+      writable = subst (WritableIn z) e (p .writable);
+      memory = p .memory ∙ d;
+      machine = p .machine ∙ c;
+    }
 
 -- Nothing done.
 pub did-nothing : {z : Sizes} {s : List ℕ} {f : ℕ → ℕ} → Did z s s f f [] (memIn z s) (machineIn z s)
-did-nothing = record { holds = λ n x. x; bytes = refl; memory = refl; machine = refl }
+did-nothing = record { holds = λ n x. x; bytes = refl; writable = tt; memory = refl; machine = refl }
 
 -- A store as a run of one, and of two.
 pub wrote-1 : {z : Sizes} {s s₁ : List ℕ} {f i v : ℕ} → PutIn z s s₁ (field fields.layout1 f) i v → Wrote z s s₁ (to f i v ∷ [])
@@ -108,8 +122,3 @@ pub wrote-2
     → PutIn z s₁ s₂ (field fields.layout1 f₂) i₂ v₂
     → Wrote z s s₂ (to f₁ i₁ v₁ ∷ to f₂ i₂ v₂ ∷ [])
 wrote-2 {z} p₁ p₂ = record { bytes = wrote-more z _ (p₁ .bytes) p₂; long = p₂ .long }
-
--- Stores in range, one run after another.
-pub writable-join : (z : Sizes) (ws ws′ : List Write) → WritableIn z ws → WritableIn z ws′ → WritableIn z (ws ++ ws′)
-writable-join z [] ws′ a b = b
-writable-join z (w ∷ ws) ws′ a b = (a .0, a .1, writable-join z ws ws′ (a .2) b)

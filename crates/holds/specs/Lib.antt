@@ -4,3 +4,4 @@ pub mod Whole
 pub mod Parts
 pub mod Frames
 pub mod Did
+pub mod Touched

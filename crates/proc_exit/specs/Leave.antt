@@ -15,6 +15,7 @@ use Rattle.state.specs.WellFormed.{Used}
 use Rattle.state.specs.declared.Sizes.{Sizes}
 use Rattle.holds.specs.Holds.{Holds}
 use Rattle.holds.specs.Did.{machineIn}
+use Rattle.holds.specs.Touched.{Touched, touched-join, touched-did}
 use Rattle.places.specs.Nowhere.{state-used}
 use Rattle.dat.specs.Own.{StopAsks, Stopped}
 use Rattle.waitq.specs.Clear.{ClearAsks, ClearDone}
@@ -31,6 +32,7 @@ pub record Left (z : Sizes) (s s′ : List ℕ) (i : ℕ) : Type 0 where
   pub holds : Holds z s′ 0
   pub machine : machineIn z s′ ≡ without i (machineIn z s)
   pub found : (q : ℕ) → (memIn z s fields.pid i ≡ q → ⊥) → found q (machineIn z s′) ≡ found q (machineIn z s)
+  pub touched : Touched z s s′
 
 -- A link to i is i's.
 link-is : (l i : ℕ) → linkTo l ≡ some i → l ≡ suc i
@@ -83,4 +85,5 @@ module _ {z : Sizes} {s : List ℕ} {i : ℕ} (a : LeaveAsks z s i) where
                 d .found q (λ e. ne (sym same-pid ∙ e))
                 ∙ ap (found q) then
                 ∙ found-still (machineIn z s) i q;
+            touched = touched-join (touched-join (touched-did (c .did)) (touched-did (t .did))) (touched-did (d .did));
           }

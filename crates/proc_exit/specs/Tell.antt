@@ -24,6 +24,7 @@ use Rattle.exact.specs.Parts.{used-of}
 use Rattle.holds.specs.Holds.{Holds}
 use Rattle.holds.specs.Whole.{holds-bounds}
 use Rattle.holds.specs.Did.{machineIn}
+use Rattle.holds.specs.Touched.{Touched, touched-join, touched-did}
 use Rattle.free.specs.Highest.{highestFree}
 use Rattle.free.specs.FreeCell.{free-cell}
 use Rattle.dat.specs.Waitr.{OwnAsks, WokeOwn}
@@ -35,6 +36,7 @@ use Rattle.proc_exit.specs.Told.{newExit, withExit, fewer, queued, told-
 pub record QueuedExit (z : Sizes) (s s′ : List ℕ) (j pid : ℕ) (name status : List ℕ) : Type 0 where
   pub holds : (n : ℕ) → Holds z s n → Holds z s′ n
   pub machine : machineIn z s′ ≡ wakeWaitr j (withExit (machineIn z s) j pid name status) .machine
+  pub touched : Touched z s s′
 
 module _ {z : Sizes} {s s₁ : List ℕ} {j pid : ℕ} {name status : List ℕ} (a : AddAsks z s j) (q : AddDone z s s₁ j pid name status) where
   pub queue-wake : OwnAsks z s₁ j
@@ -45,6 +47,7 @@ module _ {z : Sizes} {s s₁ : List ℕ} {j pid : ℕ} {name status : List ℕ} 
       record {
         holds = λ n h. w .holds n (q .did .holds n h);
         machine = w .machine ∙ ap (λ (y : Machine). wakeWaitr j y .machine) (q .did .machine);
+        touched = touched-join (touched-did (q .did)) (w .touched);
       }
 
 -- Record j has a living process with a child, and a cell is free where it has room for an exit.
@@ -60,6 +63,7 @@ pub record ToldParent (z : Sizes) (s s′ : List ℕ) (j pid : ℕ) (name status
   pub machine
       : (child : Process) → child .pid ≡ pid → child .name ≡ name → found (child .parent) (machineIn z s) ≡ some j
       → machineIn z s′ ≡ tellParent child status (machineIn z s) .machine
+  pub touched : Touched z s s′
 
 -- How many exits a living process has.
 pub exits-number : {z : Sizes} {s : List ℕ} {n : ℕ} → Holds z s n → (j : ℕ) → Used (memIn z s) j → length (process (machineIn z s) j .exits) ≡ memIn z s fields.nexits j
@@ -120,6 +124,7 @@ module _ {z : Sizes} {s : List ℕ} {j : ℕ} (a : TellAsks z s j) where
           holds = h₁;
           machine = λ child f g q.
               then ∙ sym (told-full (machineIn z s) child status j q (le-ltb (length (process (machineIn z s) j .exits)) 128 (omega (arith, number, l))));
+          touched = touched-did (p .did);
         }
 
     pub tell-add : k < 128 → AddAsks z s₁ j
@@ -145,4 +150,5 @@ module _ {z : Sizes} {s : List ℕ} {j : ℕ} (a : TellAsks z s j) where
               ∙ ap (λ (y : Machine). wakeWaitr j y .machine) (added pid name status)
               ∙ ap₂ (λ (v : ℕ) (w : List ℕ). wakeWaitr j (withProcess j (queued (machineIn z s) j v w status) (machineIn z s)) .machine) (sym f) (sym g)
               ∙ sym (told-room (machineIn z s) child status j x (lt-ltb (length (process (machineIn z s) j .exits)) 128 (omega (arith, number, l))));
+          touched = touched-join (touched-did (p .did)) (q .touched);
         }

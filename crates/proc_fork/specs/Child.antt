@@ -22,6 +22,7 @@ use Rattle.exact.specs.Parts.{pid-of, used-of}
 use Rattle.holds.specs.Holds.{Holds}
 use Rattle.holds.specs.Whole.{holds-bounds}
 use Rattle.holds.specs.Did.{machineIn}
+use Rattle.holds.specs.Touched.{Touched, touched-join, touched-did}
 use Rattle.free.specs.Highest.{highestFree, free-record}
 use Rattle.records.specs.Own.{LivingAsks, living-low}
 use Rattle.records.specs.Names.{IsName, loaded-name}
@@ -56,6 +57,7 @@ childMade false i m =
 pub record Forked (z : Sizes) (s s′ : List ℕ) (i : ℕ) (off : Bool) : Type 0 where
   pub holds : Holds z s′ 0
   pub machine : machineIn z s′ ≡ childMade off i (machineIn z s)
+  pub touched : Touched z s s′
 
 module _ {z : Sizes} {s : List ℕ} {i : ℕ} (a : ForkAsks z s i) where
   b : InBounds (sizesIn z) (memIn z s)
@@ -118,6 +120,7 @@ module _ {z : Sizes} {s : List ℕ} {i : ℕ} (a : ForkAsks z s i) where
             holds = d .holds;
             machine =
                 d .machine ∙ ap₂ (λ (x : List ℕ) (y : ℕ). made x y (machineIn z s)) (c .text ∙ name-is) (c .parent);
+            touched = d .touched;
           }
 
       module _ {s₁ : List ℕ} (t : NchildSet z s s₁ i (p .nchild + 1)) (c : ChildOf p (p .pid) (i + 1) q) where
@@ -154,6 +157,7 @@ module _ {z : Sizes} {s : List ℕ} {i : ℕ} (a : ForkAsks z s i) where
                   (t .did .machine
                   ∙ ap (λ (n : ℕ). withProcess i (withNchild n (process (machineIn z s) i)) (machineIn z s))
                   (add-one (p .nchild) ∙ ap suc nchild-is));
+              touched = touched-join (touched-did (t .did)) (d .touched);
             }
 
 -- The two ways.

@@ -24,6 +24,7 @@ use Rattle.exact.specs.Bounds.{at-most}
 use Rattle.holds.specs.Holds.{Holds}
 use Rattle.holds.specs.Whole.{holds-bounds}
 use Rattle.holds.specs.Did.{machineIn, writesIn}
+use Rattle.holds.specs.Touched.{Touched, touched-none, touched-did}
 use Rattle.free.specs.Asks.{RecordsIn, records-in}
 use Rattle.free.specs.FindRecord.{RecordFound}
 use Rattle.records.specs.Pid.{pidStores, PidTaken}
@@ -50,6 +51,7 @@ pub record Spent (z : Sizes) (s s′ : List ℕ) (M : ℕ) : Type 0 where
   pub holds : Holds z s′ 0
   pub bytes : s′ ≡ (if eqb M 3 then writesIn z s (pidStores (memIn z s)) else s)
   pub machine : machineIn z s′ ≡ (if eqb M 3 then withNextPid (suc (machineIn z s .nextPid)) (machineIn z s) else machineIn z s)
+  pub touched : Touched z s s′
 
 module _ {z : Sizes} {s : List ℕ} {M : ℕ} (a : SpendAsks z s) where
   pub spend-some : {s₁ : List ℕ} {v : ℕ} → M ≡ 3 → PidTaken z s s₁ v → Spent z s s₁ M
@@ -58,10 +60,11 @@ module _ {z : Sizes} {s : List ℕ} {M : ℕ} (a : SpendAsks z s) where
         holds = t .did .holds 0 (a .holds);
         bytes = rw (eq-eqb M 3 e) (t .did .bytes);
         machine = rw (eq-eqb M 3 e) (t .did .machine);
+        touched = touched-did (t .did);
       }
 
   pub spend-none : (M ≡ 3 → ⊥) → Spent z s s M
-  spend-none ne = record { holds = a .holds; bytes = rw (ne-eqb M 3 ne); machine = rw (ne-eqb M 3 ne) }
+  spend-none ne = record { holds = a .holds; bytes = rw (ne-eqb M 3 ne); machine = rw (ne-eqb M 3 ne); touched = touched-none }
 
 pub record RforkTook (z : Sizes) (s s′ : List ℕ) (k : Bool) (F M : ℕ) (a : code.Reply) : Type 0 where
   pub stepped : Stepped z s s′ (step k (rfork F M)) [] a
@@ -127,7 +130,7 @@ module _ {z : Sizes} {s : List ℕ} {F M i : ℕ} (a : MakeAsks z s F M i) where
                   stepped-left
                   (refused-rfork-11 (machineIn z s) false F M (a .range) refl (a .flags) up (a .child) (found-some r ne) (not-last z s e d)
                   (ne-eqb M 0 w))
-                  (t .holds) (sym (t .machine)) (sym (t .bytes));
+                  (t .holds) (t .touched) (sym (t .machine)) (sym (t .bytes));
             }
 
         pub make-fork : ForkAsks z s i
@@ -143,7 +146,7 @@ module _ {z : Sizes} {s : List ℕ} {F M i : ℕ} (a : MakeAsks z s F M i) where
               stepped =
                   stepped-done
                   (allowed-rfork m false F M (a .range) refl (a .flags) up (a .child) (found-some r ne) (not-last z s e d) (eq-eqb M 0 w))
-                  (f .holds)
+                  (f .holds) (f .touched)
                   (ap (λ (n : ℕ). answer (Answer.pid n)) (e ∙ sym (pid-in z s)) ∙ ap (λ (o : Outcome). o .reply) (sym q))
                   (ap (λ (o : Outcome). told (o .reply)) (sym q))
                   (f .machine ∙ ap (λ (o : Outcome). o .after) (sym q));

@@ -71,6 +71,7 @@ called-tick {z} {s} {s′} {t} a e b =
         readied = rw e;
         flags = ap (λ (x : Memory). x fields.isQueued) (b .memory);
         deadlines = ap (λ (x : Memory). x fields.deadline) (b .memory);
+        touched = b .touched;
       };
     }
 

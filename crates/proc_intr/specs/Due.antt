@@ -17,6 +17,7 @@ use Rattle.exact.specs.Parts.{pid-of}
 use Rattle.holds.specs.Holds.{Holds}
 use Rattle.holds.specs.Whole.{holds-bounds}
 use Rattle.holds.specs.Did.{machineIn}
+use Rattle.holds.specs.Touched.{Touched, touched-join}
 use Rattle.timer.specs.Due.{Later, HeadDue, PoppedDue}
 use Rattle.outcome.specs.Stepped.{Well}
 use Rattle.proc_intr.specs.Fire.{timerAt, FireAsks, Fired}
@@ -33,6 +34,7 @@ pub record FiredDue (z : Sizes) (s s′ : List ℕ) (reading : ℕ) (b : Bool) :
   pub bytes : b ≡ false → s′ ≡ s
   pub later : b ≡ false → NoneDue reading (machineIn z s .queued)
   pub fires : b ≡ true → OneFired (machineIn z s) (machineIn z s′) reading
+  pub touched : Touched z s s′
 
 not-both : true ≡ false → ⊥
 not-both e = subst T e tt
@@ -51,6 +53,7 @@ due-none {z} {s} {s₁} {reading} {l} a p e =
       bytes = λ _. b;
       later = λ _. none-due reading (machineIn z s .queued) (q .later refl);
       fires = λ x. absurd (not-both (sym x));
+      touched = p .touched;
     }
 
 -- The link of a timer.
@@ -112,4 +115,5 @@ due-fired {z} {s} {s₁} {s₂} {reading} {l} a p ne f =
       bytes = λ x. absurd (not-both x);
       later = λ x. absurd (not-both x);
       fires = λ _. o;
+      touched = touched-join (p .touched) (f .touched);
     }

@@ -11,6 +11,7 @@ use Rattle.state.specs.Places.{memIn}
 use Rattle.state.specs.declared.Sizes.{Sizes}
 use Rattle.holds.specs.Holds.{Holds}
 use Rattle.holds.specs.Did.{machineIn}
+use Rattle.holds.specs.Touched.{Touched, touched-join}
 use Rattle.timer.specs.Readd.{ReaddAsks, Readded}
 use Rattle.proc_intr.specs.Callback.{CallbackAsks, CalledBack}
 
@@ -28,6 +29,7 @@ pub record FireAsks (z : Sizes) (s : List ℕ) (t : ℕ) : Type 0 where
 pub record Fired (z : Sizes) (s s′ : List ℕ) (t : ℕ) : Type 0 where
   pub holds : (n : ℕ) → Holds z s n → Holds z s′ n
   pub machine : machineIn z s′ ≡ readd (timerAt (memIn z s) t) (callback t (machineIn z s) .machine)
+  pub touched : Touched z s s′
 
 pub fire-readd : {z : Sizes} {s s₁ : List ℕ} {t l : ℕ} → FireAsks z s t → CalledBack z s s₁ t l → ReaddAsks z s₁ t
 fire-readd {t = t} a c =
@@ -46,4 +48,5 @@ fired {z} {s} {s₁} {s₂} {t} a c r =
           r .machine
           ∙ ap (readd (timerAt (memIn z s₁) t)) (c .did .machine)
           ∙ ap (λ (k : ℕ → ℕ). readd (record { timer = t; deadline = k t }) (callback t (machineIn z s) .machine)) (c .did .deadlines);
+      touched = touched-join (c .did .touched) (r .touched);
     }

@@ -11,6 +11,7 @@ use Rattle.machine.specs.Timers.{Firing, fire, fireDue, interrupt}
 use Rattle.machine.specs.TimersLaws.{NoneDue}
 use Rattle.state.specs.declared.Sizes.{Sizes}
 use Rattle.holds.specs.Did.{machineIn}
+use Rattle.holds.specs.Touched.{Touched, touched-none, touched-join}
 use Rattle.outcome.specs.Stepped.{Well}
 use Rattle.proc_intr.specs.OneFired.{OneFired, one-less}
 use Rattle.proc_intr.specs.Due.{DueAsks, FiredDue}
@@ -21,6 +22,7 @@ pub record Interrupted (z : Sizes) (s s′ : List ℕ) (reading n : ℕ) : Type 
   pub well : Well z s′
   pub machine : machineIn z s′ ≡ interrupt reading (machineIn z s) .machine
   pub count : n ≡ interrupt reading (machineIn z s) .count
+  pub touched : Touched z s s′
 
 -- What firing has done so far, at machine M with n fired.
 abbrev soFar : Machine → ℕ → ℕ → List ℕ → Firing
@@ -36,12 +38,22 @@ pub record Interrupting (z : Sizes) (s₀ s : List ℕ) (reading n : ℕ) : Type
   pub owed : owedIn z s reading ≤ bound
   pub goes : fireDue bound reading (soFar (machineIn z s) n ticks readied) ≡ interrupt reading (machineIn z s₀)
   pub room : n + bound ≤ 18446744073709551615
+  pub touched : Touched z s₀ s
 
 -- Nothing has fired.
 pub int-start : {z : Sizes} {s : List ℕ} {reading : ℕ} → DueAsks z s reading → Interrupting z s s reading 0
 unfolding interrupt
 int-start {z} {s} {reading} a =
-    record { asks = a; bound = owedIn z s reading; ticks = 0; readied = []; owed = omega arith; goes = refl; room = omega (arith, owed-room a) }
+    record {
+      asks = a;
+      bound = owedIn z s reading;
+      ticks = 0;
+      readied = [];
+      owed = omega arith;
+      goes = refl;
+      room = omega (arith, owed-room a);
+      touched = touched-none;
+    }
 
 -- The definition, where nothing is due and where the head is.
 stop-due : (P : Firing → Type 0) (n reading : ℕ) (f : Firing) → NoneDue reading (f .machine .queued) → P f → P (fireDue n reading f)
@@ -117,6 +129,7 @@ int-step {z} {s₀} {s} {s′} {reading} {n} i d e =
           ∙ ap (λ (k : ℕ). fireDue k reading f) (sym c)
           ∙ i .goes;
       room = omega (arith, i .room, c);
+      touched = touched-join (i .touched) (d .touched);
     }
 
 pub int-end
@@ -132,4 +145,5 @@ int-end {z} {s₀} {s} {s′} {reading} {n} i d e =
       well = d .again .well;
       machine = ap (machineIn z) (d .bytes e) ∙ ap (λ (y : Firing). y .machine) x;
       count = ap (λ (y : Firing). y .count) x;
+      touched = touched-join (i .touched) (d .touched);
     }

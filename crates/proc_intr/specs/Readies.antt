@@ -11,6 +11,7 @@ use Rattle.state.specs.Places.{memIn}
 use Rattle.state.specs.declared.Sizes.{Sizes}
 use Rattle.holds.specs.Holds.{Holds}
 use Rattle.holds.specs.Did.{machineIn, writesIn}
+use Rattle.holds.specs.Touched.{Touched, touched-none}
 use Rattle.dat.specs.Rendez.{Woke, wakeStores, pidsOf}
 
 -- The stores of a `wakeup` on Rendez r that woke whom the link l names, 0 for nobody.
@@ -26,6 +27,7 @@ pub record Readies (z : Sizes) (s s′ : List ℕ) (ws : List Write) (w : Woken)
   pub readied : pidsOf (memIn z s) l ≡ w .readied
   pub flags : memIn z s′ fields.isQueued ≡ memIn z s fields.isQueued
   pub deadlines : memIn z s′ fields.deadline ≡ memIn z s fields.deadline
+  pub touched : Touched z s s′
 
 -- Nobody is readied, and nothing else done.
 abbrev pub idle : Machine → Woken
@@ -40,6 +42,7 @@ readies-none w e =
       readied = ap (λ (x : Woken). x .readied) (sym e);
       flags = refl;
       deadlines = refl;
+      touched = touched-none;
     }
 
 -- What a `wakeup` leaves: its stores, and the timers.
@@ -75,6 +78,7 @@ readies-woke w k e =
       readied = k .readied ∙ ap (λ (x : Woken). x .readied) (sym e);
       flags = left k .flags;
       deadlines = left k .deadlines;
+      touched = k .touched;
     }
 
 -- The same, said of other stores and of another word for the machine's part.
@@ -92,4 +96,5 @@ readies-as {z} {s} {s′} {l = l} r d e =
       readied = r .readied ∙ ap (λ (x : Woken). x .readied) (sym e);
       flags = r .flags;
       deadlines = r .deadlines;
+      touched = r .touched;
     }

@@ -25,6 +25,7 @@ use Rattle.state.specs.Abs.{machineOf}
 use Rattle.state.specs.Places.{memIn}
 use Rattle.state.specs.declared.Sizes.{Sizes}
 use Rattle.holds.specs.Did.{machineIn}
+use Rattle.holds.specs.Touched.{Touched, touched-join}
 use Rattle.clockwork.specs.Stores.{Became}
 use Rattle.clockwork.specs.Clock.{nowStores}
 use Rattle.outcome.specs.declared.Reply as code
@@ -126,17 +127,18 @@ intr-done
     : {z : Sizes} {s s₁ s₂ : List ℕ} {reading n : ℕ}
     → Accepted z s reading
     → machineIn z s₁ ≡ withLastNow reading (machineIn z s)
+    → Touched z s s₁
     → Interrupted z s₁ s₂ reading n
     → Took z s s₂ (intr reading) (Fired n (n / 20000))
 unfolding means told
-intr-done {z} {s} {s₁} {s₂} {reading} {n} a e i =
+intr-done {z} {s} {s₁} {s₂} {reading} {n} a e w i =
     let M : Machine = machineIn z s in
     let f : Firing = interrupt reading (withLastNow reading M) in
     let c : n ≡ f .count = i .count ∙ ap (λ (x : Machine). interrupt reading x .count) e in
     let t : perform (intr reading) M .reply ≡ answer (Answer.fired n (n / 20000)) = intr-reply M reading f refl ∙ rw c in
     record {
       stepped = λ k.
-          stepped-done (allowed a k) (i .well .holds) (sym t) (ap told (sym t))
+          stepped-done (allowed a k) (i .well .holds) (touched-join w (i .touched)) (sym t) (ap told (sym t))
           (i .machine ∙ ap (λ (x : Machine). interrupt reading x .machine) e ∙ sym (intr-after M reading));
     }
 
@@ -149,4 +151,4 @@ pub intr-fired
     → Became z s s₁ (nowStores reading) (withLastNow reading (machineIn z s))
     → Interrupted z s₁ s₂ reading n
     → Took z s s₂ (intr reading) (Fired n (n / 20000))
-intr-fired w e l h b i = intr-done (accepted w e l h) (b .machine) i
+intr-fired w e l h b i = intr-done (accepted w e l h) (b .machine) (b .touched) i

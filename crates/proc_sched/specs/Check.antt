@@ -23,7 +23,7 @@ use Rattle.timer.specs.Del.{TimerAsks, Deleted, delMem}
 use Rattle.timer.specs.Queued.{IsQueued}
 use Rattle.clockwork.specs.Conditions.{Condition}
 use Rattle.outcome.specs.declared.Reply as code
-use Rattle.proc_sched.specs.Limbo.{Limbo, Went, RunsOn, AgainAsks, SleptAgain, limbo-low}
+use Rattle.proc_sched.specs.Limbo.{Limbo, Went, RunsOn, AgainAsks, SleptAgain, limbo-low, went-from}
 
 -- The call of i is a `sleep` or `tsleep` on Rendez r, where nobody is if its condition c is false.
 pub record CheckAsks (z : Sizes) (s : List ℕ) (i r c : ℕ) : Type 0 where
@@ -33,7 +33,7 @@ pub record CheckAsks (z : Sizes) (s : List ℕ) (i r c : ℕ) : Type 0 where
   pub empty : condition (machineIn z s) c ≡ false → memIn z s fields.sleeperOf r ≡ 0
 
 pub record Checked (z : Sizes) (s s′ : List ℕ) (i r c : ℕ) (a : code.Reply) : Type 0 where
-  pub went : Went z s′ (checksAgain (condition (machineIn z s) c) i r (machineIn z s)) [] a
+  pub went : Went z s s′ (checksAgain (condition (machineIn z s) c) i r (machineIn z s)) [] a
 
 pub check-owing : {z : Sizes} {s : List ℕ} {i r c : ℕ} → CheckAsks z s i r c → Owing z s
 check-owing a = record { owed = 0; holds = a .limbo .holds }
@@ -48,7 +48,7 @@ pub check-runs
 check-runs {z} {s} {s₁} {i} {r} {c} {t} {a} k h e o =
     record {
       went =
-          subst (λ (x : Outcome). Went z s₁ x [] a)
+          subst (λ (x : Outcome). Went z s s₁ x [] a)
           (sym (ap (λ (b : Bool). checksAgain b i r (machineIn z s)) (sym (h .answer) ∙ e) ∙ runs-true (machineIn z s) i r)) (o .went);
     }
 
@@ -62,13 +62,13 @@ pub check-sleeps
 check-sleeps {z} {s} {s₁} {i} {r} {c} {t} {a} k h e o =
     record {
       went =
-          subst (λ (b : Bool). Went z s₁ (checksAgain b i r (machineIn z s)) [] a) (sym (sym (h .answer) ∙ e)) (o .went);
+          subst (λ (b : Bool). Went z s s₁ (checksAgain b i r (machineIn z s)) [] a) (sym (sym (h .answer) ∙ e)) (o .went);
     }
 
 -- The `tsleep` of i returns: its timer is removed.
 pub record TimedOut (z : Sizes) (s s′ : List ℕ) (i : ℕ) (a : code.Reply) : Type 0 where
   pub went
-      : Went z s′
+      : Went z s s′
       (runs i (Answer.run (pidOf (delete (ownTimer i (machineIn z s)) (machineIn z s)) i)) (delete (ownTimer i (machineIn z s)) (machineIn z s))) [] a
 
 own-is : (z : Sizes) (s : List ℕ) (i : ℕ) → ownTimer i (machineIn z s) ≡ z .timers + i
@@ -102,8 +102,9 @@ pub out-runs
 out-runs {z} {s} {s₁} {s₂} {i} {a} l d o =
     record {
       went =
-          subst (λ (x : Machine). Went z s₂ (runs i (Answer.run (pidOf x i)) x) [] a)
-          (d .machine ∙ ap (λ (t : ℕ). delete t (machineIn z s)) (sym (own-is z s i))) (o .went);
+          went-from (d .touched)
+          (subst (λ (x : Machine). Went z s₁ s₂ (runs i (Answer.run (pidOf x i)) x) [] a)
+          (d .machine ∙ ap (λ (t : ℕ). delete t (machineIn z s)) (sym (own-is z s i))) (o .went));
     }
 
 -- The same for a `tsleep`; nobody is to be there only while its timer is queued.
@@ -116,7 +117,7 @@ pub record TsleepAsks (z : Sizes) (s : List ℕ) (i r c : ℕ) : Type 0 where
 -- The whole of a `tsleep`'s check.
 pub record TsleepChecked (z : Sizes) (s s′ : List ℕ) (i r c : ℕ) (a : code.Reply) : Type 0 where
   pub went
-      : Went z s′
+      : Went z s s′
       (tsleepChecks (if isQueued (ownTimer i (machineIn z s)) (machineIn z s) then condition (machineIn z s) c else true) i r (machineIn z s)) [] a
 
 timed : (m : Machine) (i r : ℕ) → tsleepChecks true i r m ≡ runs i (Answer.run (pidOf (delete (ownTimer i m) m) i)) (delete (ownTimer i m) m)

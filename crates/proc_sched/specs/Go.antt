@@ -42,7 +42,7 @@ pub record GoAsks (z : Sizes) (s : List ℕ) (i : ℕ) (c : Resume) (b : List �
 -- It has gone on there, and its message, if any, stands at the front of the buffer.
 pub record WentOn (z : Sizes) (s s′ : List ℕ) (i : ℕ) (c : Resume) (b b′ : List ℕ) (a : code.Reply) : Type 0 where
   pub message : List ℕ
-  pub went : Went z s′ (resumes (meaning c) i (machineIn z s)) message a
+  pub went : Went z s s′ (resumes (meaning c) i (machineIn z s)) message a
   pub buffer : b′ ≡ message ++ drop (length message) b
 
 -- A `wait` has the number 4.
@@ -119,7 +119,7 @@ module _ {z : Sizes} {s s₁ : List ℕ} {i : ℕ} {c : Resume} {b : List ℕ} {
   went-nothing k e o =
       record {
         message = [];
-        went = subst (λ (x : Resume). Went z s₁ (resumes (meaning x) i (machineIn z s)) [] a) (sym e) (o .went);
+        went = subst (λ (x : Resume). Went z s s₁ (resumes (meaning x) i (machineIn z s)) [] a) (sym e) (o .went);
         buffer = refl;
       }
 
@@ -128,7 +128,7 @@ module _ {z : Sizes} {s s₁ : List ℕ} {i : ℕ} {c : Resume} {b : List ℕ} {
   went-qlock k e o =
       record {
         message = [];
-        went = subst (λ (x : Resume). Went z s₁ (resumes (meaning x) i (machineIn z s)) [] a) (sym e) (o .went);
+        went = subst (λ (x : Resume). Went z s s₁ (resumes (meaning x) i (machineIn z s)) [] a) (sym e) (o .went);
         buffer = refl;
       }
 
@@ -137,7 +137,7 @@ module _ {z : Sizes} {s s₁ : List ℕ} {i : ℕ} {c : Resume} {b : List ℕ} {
   went-sleep k e o =
       record {
         message = [];
-        went = subst (λ (x : Resume). Went z s₁ (resumes (meaning x) i (machineIn z s)) [] a) (sym e) (o .went);
+        went = subst (λ (x : Resume). Went z s s₁ (resumes (meaning x) i (machineIn z s)) [] a) (sym e) (o .went);
         buffer = refl;
       }
 
@@ -146,7 +146,7 @@ module _ {z : Sizes} {s s₁ : List ℕ} {i : ℕ} {c : Resume} {b : List ℕ} {
   went-tsleep k e o =
       record {
         message = [];
-        went = subst (λ (x : Resume). Went z s₁ (resumes (meaning x) i (machineIn z s)) [] a) (sym e) (o .went);
+        went = subst (λ (x : Resume). Went z s s₁ (resumes (meaning x) i (machineIn z s)) [] a) (sym e) (o .went);
         buffer = refl;
       }
 
@@ -155,6 +155,6 @@ module _ {z : Sizes} {s s₁ : List ℕ} {i : ℕ} {c : Resume} {b : List ℕ} {
   went-wait k e o =
       record {
         message = o .message;
-        went = subst (λ (x : Resume). Went z s₁ (resumes (meaning x) i (machineIn z s)) (o .message) a) (sym e) (o .went);
+        went = subst (λ (x : Resume). Went z s s₁ (resumes (meaning x) i (machineIn z s)) (o .message) a) (sym e) (o .went);
         buffer = o .buffer;
       }

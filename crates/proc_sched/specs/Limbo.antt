@@ -22,6 +22,7 @@ use Rattle.exact.specs.Parts.{pid-of}
 use Rattle.holds.specs.Holds.{Holds}
 use Rattle.holds.specs.Whole.{holds-bounds}
 use Rattle.holds.specs.Did.{machineIn}
+use Rattle.holds.specs.Touched.{Touched, touched-join, touched-did}
 use Rattle.places.specs.Nowhere.{Nowhere}
 use Rattle.places.specs.Rendez.{CallsRendez}
 use Rattle.dat.specs.Asleep.{asleepIn}
@@ -43,6 +44,7 @@ pub record Limbo (z : Sizes) (s : List ℕ) (i : ℕ) : Type 0 where
 pub record Dispatched (z : Sizes) (s s′ : List ℕ) (i : ℕ) : Type 0 where
   pub holds : Holds z s′ 0
   pub machine : machineIn z s′ ≡ withUp (some i) (withProcess i (withResume machine.nothing (process (machineIn z s) i)) (machineIn z s))
+  pub touched : Touched z s s′
 
 pub limbo-call : {z : Sizes} {s : List ℕ} {i : ℕ} → Limbo z s i → CallAsks z s i Nothing
 limbo-call l =
@@ -53,28 +55,56 @@ limbo-run l c = record { owed = 0; holds = c .did .holds 0 (l .holds); nowhere =
 
 pub dispatched : {z : Sizes} {s s₁ s₂ : List ℕ} {i : ℕ} → Limbo z s i → Called z s s₁ i Nothing → Ran z s₁ s₂ i → Dispatched z s s₂ i
 dispatched {i = i} l c r =
-    record { holds = r .did .holds 0 (c .did .holds 0 (l .holds)); machine = r .did .machine ∙ ap (withUp (some i)) (c .did .machine) }
+    record {
+      holds = r .did .holds 0 (c .did .holds 0 (l .holds));
+      machine = r .did .machine ∙ ap (withUp (some i)) (c .did .machine);
+      touched = touched-join (touched-did (c .did)) (touched-did (r .did));
+    }
 
 pub limbo-low : {z : Sizes} {s : List ℕ} {i : ℕ} → Limbo z s i → i < z .processes
 limbo-low {i = i} l = inside (holds-bounds (l .holds)) fields.pid i (l .nowhere .used)
 
 -- The outcome o, as the code has it: reply, message told, and machine.
-pub record Went (z : Sizes) (s′ : List ℕ) (o : Outcome) (m : List ℕ) (r : code.Reply) : Type 0 where
+pub record Went (z : Sizes) (s s′ : List ℕ) (o : Outcome) (m : List ℕ) (r : code.Reply) : Type 0 where
   pub holds : Holds z s′ 0
   pub reply : means r m [] ≡ o .reply
   pub told : m ≡ told (o .reply)
   pub long : lengthOf r ≡ length m
   pub machine : machineIn z s′ ≡ o .after
+  pub touched : Touched z s s′
+
+-- The same, from before what was written first.
+pub went-from
+    : {z : Sizes} {s s₁ s₂ : List ℕ} {o : Outcome} {m : List ℕ} {r : code.Reply} → Touched z s s₁ → Went z s₁ s₂ o m r → Went z s s₂ o m r
+went-from t w =
+    record {
+      holds = w .holds;
+      reply = w .reply;
+      told = w .told;
+      long = w .long;
+      machine = w .machine;
+      touched = touched-join t (w .touched);
+    }
 
 pub record RunsOn (z : Sizes) (s s′ : List ℕ) (i : ℕ) (r : code.Reply) : Type 0 where
-  pub went : Went z s′ (runs i (Answer.run (pidOf (machineIn z s) i)) (machineIn z s)) [] r
+  pub went : Went z s s′ (runs i (Answer.run (pidOf (machineIn z s) i)) (machineIn z s)) [] r
 
 pub runs-on
     : {z : Sizes} {s s₁ : List ℕ} {i p : ℕ} → Limbo z s i → p ≡ memIn z s fields.pid i → Dispatched z s s₁ i → RunsOn z s s₁ i (Run p)
 unfolding openPerform openOutcome means told
 runs-on {z} {s} {s₁} {i} {p} l e d =
     let q : p ≡ pidOf (machineIn z s) i = e ∙ sym (pid-of (holds-bounds (l .holds)) i) in
-    record { went = record { holds = d .holds; reply = ap (λ (n : ℕ). answer (Answer.run n)) q; told = refl; long = refl; machine = d .machine } }
+    record {
+      went =
+          record {
+            holds = d .holds;
+            reply = ap (λ (n : ℕ). answer (Answer.run n)) q;
+            told = refl;
+            long = refl;
+            machine = d .machine;
+            touched = d .touched;
+          };
+    }
 
 -- Its call is a `sleep` or `tsleep` on Rendez r, where nobody is.
 pub record AgainAsks (z : Sizes) (s : List ℕ) (i r : ℕ) : Type 0 where
@@ -84,7 +114,7 @@ pub record AgainAsks (z : Sizes) (s : List ℕ) (i r : ℕ) : Type 0 where
   pub empty : memIn z s fields.sleeperOf r ≡ 0
 
 pub record SleptAgain (z : Sizes) (s s′ : List ℕ) (i r : ℕ) (a : code.Reply) : Type 0 where
-  pub went : Went z s′ (checksAgain false i r (machineIn z s)) [] a
+  pub went : Went z s s′ (checksAgain false i r (machineIn z s)) [] a
 
 pub again-asks : {z : Sizes} {s : List ℕ} {i r : ℕ} → AgainAsks z s i r → SleepAsks z s i r
 again-asks a =
@@ -142,5 +172,6 @@ slept-again {z} {s} {s₁} {i} {r} a p =
             told = refl;
             long = refl;
             machine = p .did .machine ∙ sym (sleeps-same (machineIn z s) i r (up-none (a .limbo)));
+            touched = touched-did (p .did);
           };
     }

@@ -25,6 +25,7 @@ use Rattle.exact.specs.Parts.{resumeAt, resume-of}
 use Rattle.holds.specs.Holds.{Holds}
 use Rattle.holds.specs.Whole.{holds-bounds}
 use Rattle.holds.specs.Did.{machineIn}
+use Rattle.holds.specs.Touched.{touched-join, touched-did}
 use Rattle.places.specs.Nowhere.{Nowhere}
 use Rattle.places.specs.Run.{nextMem}
 use Rattle.dat.specs.Run.{NextAsks, NextOne, NextTaken}
@@ -33,7 +34,7 @@ use Rattle.clockwork.specs.Stores.{Became}
 use Rattle.outcome.specs.declared.Reply as code
 use Rattle.outcome.specs.Stepped.{Well}
 use Rattle.outcome.specs.Room.{well-room}
-use Rattle.proc_sched.specs.Limbo.{Limbo, Went}
+use Rattle.proc_sched.specs.Limbo.{Limbo, Went, went-from}
 use Rattle.proc_sched.specs.Turning.{turning, taken-same, turning-is, sched-first}
 use Rattle.proc_sched.specs.Go.{GoAsks, WentOn}
 
@@ -49,7 +50,7 @@ pub record TurnAsks (z : Sizes) (s : List ℕ) (i : ℕ) (c : Resume) (b : List 
 -- One turn of the scheduler; the message, if any, stands at the front of the buffer.
 pub record Turned (z : Sizes) (s s′ b b′ : List ℕ) (a : code.Reply) : Type 0 where
   pub message : List ℕ
-  pub went : Went z s′ (schedOf (machineIn z s)) message a
+  pub went : Went z s s′ (schedOf (machineIn z s)) message a
   pub buffer : b′ ≡ message ++ drop (length message) b
 
 -- The header names the first of the run queue.
@@ -165,9 +166,9 @@ module _ {z : Sizes} {s s₁ : List ℕ} {i l : ℕ} {c : Resume} {b : List ℕ}
         record {
           message = w .message;
           went =
-              subst (λ (o : Outcome). Went z s₃ o (w .message) r)
+              subst (λ (o : Outcome). Went z s s₃ o (w .message) r)
               (ap₂ (λ (x : machine.Resume) (m : Machine). resumes x i m) (a .call) after
               ∙ sym (sched-first (machineIn z s) i (one .rest) run-split))
-              (w .went);
+              (went-from (touched-join (touched-did (one .did)) (q .touched)) (w .went));
           buffer = w .buffer;
         }

@@ -22,6 +22,7 @@ use Rattle.state.specs.declared.Sizes.{Sizes}
 use Rattle.exact.specs.Parts.{used-of, pid-of}
 use Rattle.holds.specs.Whole.{holds-bounds}
 use Rattle.holds.specs.Did.{machineIn}
+use Rattle.holds.specs.Touched.{touched-join, touched-did}
 use Rattle.places.specs.Nowhere.{Nowhere}
 use Rattle.dat.specs.Waitr.{WaitAsks, Waited}
 use Rattle.waitq.specs.Push.{headStores}
@@ -44,7 +45,7 @@ pub record FinishAsks (z : Sizes) (s : List ℕ) (i : ℕ) (b : List ℕ) : Type
 -- It runs, and its `wait` gives the newest exit, whose message stands at the front of the buffer.
 pub record WaitFinished (z : Sizes) (s s′ : List ℕ) (i : ℕ) (b b′ : List ℕ) (a : code.Reply) : Type 0 where
   pub went
-      : Went z s′
+      : Went z s s′
       (runs i
       (Answer.runChild (pidOf (machineIn z s) i) (newest (process (machineIn z s) i) .pid) (newest (process (machineIn z s) i) .message))
       (withProcess i (takeExit (process (machineIn z s) i)) (machineIn z s)))
@@ -99,6 +100,7 @@ finished {z} {s} {s₁} {s₂} {i} {p} {b} {b₁} {g} f e t d =
             told = refl;
             long = t .long;
             machine = y;
+            touched = touched-join (t .touched) (d .touched);
           };
       buffer = t .buffer;
     }
@@ -111,7 +113,7 @@ pub record WaitCheckAsks (z : Sizes) (s : List ℕ) (i : ℕ) (b : List ℕ) : T
 
 pub record WaitChecked (z : Sizes) (s s′ : List ℕ) (i : ℕ) (b b′ : List ℕ) (a : code.Reply) : Type 0 where
   pub message : List ℕ
-  pub went : Went z s′ (waitChecks i (machineIn z s)) message a
+  pub went : Went z s s′ (waitChecks i (machineIn z s)) message a
   pub buffer : b′ ≡ message ++ drop (length message) b
 
 pub wait-low : {z : Sizes} {s : List ℕ} {i : ℕ} {b : List ℕ} → WaitCheckAsks z s i b → i < z .processes
@@ -186,6 +188,7 @@ wait-slept {z} {s} {s₁} {i} {n} {b} a e d w =
             told = ap told (sym (q .0));
             long = refl;
             machine = w .did .machine ∙ sym (again (machineIn z s) i (up-none (a .limbo)) (waiting a)) ∙ sym (q .1);
+            touched = touched-did (w .did);
           };
       buffer = refl;
     }
@@ -200,7 +203,7 @@ wait-finished {z} {s} {s₁} {i} {n} {b} {b₁} {r} a e ne f =
     record {
       message = newest (process (machineIn z s) i) .message;
       went =
-          subst (λ (o : Outcome). Went z s₁ o (newest (process (machineIn z s) i) .message) r)
+          subst (λ (o : Outcome). Went z s s₁ o (newest (process (machineIn z s) i) .message) r)
           (sym (checks-some (machineIn z s) i (some-exits a (λ d. ne (e ∙ d))))) (f .went);
       buffer = f .buffer;
     }

@@ -25,6 +25,7 @@ use Rattle.state.specs.declared.Sizes.{Sizes}
 use Rattle.record.specs.declared.Resume.the-variants.{Qlock}
 use Rattle.holds.specs.Holds.{Holds}
 use Rattle.holds.specs.Did.{machineIn}
+use Rattle.holds.specs.Touched.{Touched, touched-same, touched-join, touched-did}
 use Rattle.places.specs.Lock.{CallsLock}
 use Rattle.dat.specs.Asleep.{asleepIn}
 use Rattle.dat.specs.Own.{StopAsks, Stopped, CallAsks, Called}
@@ -51,6 +52,7 @@ pub record QueueAsks (z : Sizes) (s : List ℕ) (i q : ℕ) : Type 0 where
 pub record Queued (z : Sizes) (s s′ : List ℕ) (i q : ℕ) : Type 0 where
   pub holds : Holds z s′ 0
   pub machine : machineIn z s′ ≡ queueOn i q (machine.inQlock q) (machineIn z s)
+  pub touched : Touched z s s′
 
 pub queue-stop : {z : Sizes} {s : List ℕ} {i q : ℕ} → QueueAsks z s i q → StopAsks z s
 queue-stop a = record { owed = 0; holds = a .holds }
@@ -111,6 +113,7 @@ queued {z} {s} {s₁} {s₂} {s₃} {i} {q} a t d p =
           ∙ queue-on (machineIn z s) i q (machine.inQlock q) (machineIn z s₂)
           (d .did .machine ∙ ap (λ (x : Machine). withProcess i (withResume (machine.inQlock q) (process x i)) x) (t .did .machine))
           (a .held);
+      touched = touched-join (touched-join (touched-did (t .did)) (touched-did (d .did))) (touched-did (p .did));
     }
 
 -- qlock
@@ -169,7 +172,8 @@ qlock-done {z} {s} {s₁} {q} {k} {t} a w e =
     in
     record {
       stepped =
-          stepped-done (qlock-number k a ∙ rw (h, off k, off (isNone (machineIn z s .up)))) (w .yes e .holds 0 (a .well .holds)) (sym (p .0)) (ap told (sym (p .0)))
+          stepped-done (qlock-number k a ∙ rw (h, off k, off (isNone (machineIn z s .up)))) (w .yes e .holds 0 (a .well .holds))
+          (touched-did (w .yes e)) (sym (p .0)) (ap told (sym (p .0)))
           (w .yes e .machine ∙ sym (p .1));
     }
 
@@ -243,6 +247,7 @@ qlock-asleep {z} {s} {s₁} {s₂} {q} {u} {k} {t} a w e f v ne d =
     in
     record {
       stepped =
-          stepped-done (qlock-number k a ∙ rw (h .held, f, o)) (d .holds) (sym (p .0)) (ap told (sym (p .0)))
+          stepped-done (qlock-number k a ∙ rw (h .held, f, o)) (d .holds) (touched-join (touched-same (h .same)) (d .touched)) (sym (p .0))
+          (ap told (sym (p .0)))
           (d .machine ∙ ap (λ (x : List ℕ). queueOn (u - 1) q (machine.inQlock q) (machineIn z x)) (h .same) ∙ sym (p .1));
     }

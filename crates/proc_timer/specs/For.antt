@@ -21,6 +21,7 @@ use Rattle.exact.specs.Parts.{sleeper-of}
 use Rattle.holds.specs.Holds.{Holds}
 use Rattle.holds.specs.Whole.{holds-bounds}
 use Rattle.holds.specs.Did.{machineIn}
+use Rattle.holds.specs.Touched.{Touched}
 use Rattle.clockwork.specs.Conditions.{Condition}
 use Rattle.outcome.specs.declared.Reply.{Reply}
 use Rattle.outcome.specs.declared.Reply.the-variants.{Done, Asleep, Refused}
@@ -44,16 +45,17 @@ forOf m own i r c n counts =
     else answered Answer.asleep (sleepOn i r (inTsleep r c) (add own (n + counts) (withLastNow n m)))
 
 -- The answer and the state are those of an outcome.
-pub record Came (z : Sizes) (s′ : List ℕ) (a : Reply) (o : Outcome) : Type 0 where
+pub record Came (z : Sizes) (s s′ : List ℕ) (a : Reply) (o : Outcome) : Type 0 where
   pub holds : Holds z s′ 0
   pub reply : means a [] [] ≡ o .reply
   pub told : [] ≡ told (o .reply)
   pub machine : machineIn z s′ ≡ o .after
+  pub touched : Touched z s s′
 
 -- Refused where the condition is false and another is asleep there, and done otherwise.
 pub record SleptFor (z : Sizes) (s s′ : List ℕ) (i r c n counts : ℕ) (a : Reply) : Type 0 where
   pub refused : taken (machineIn z s) r c ≡ true → (a ≡ Refused 5) × (s′ ≡ s)
-  pub done : taken (machineIn z s) r c ≡ false → Came z s′ a (forOf (machineIn z s) (z .timers + i) i r c n counts)
+  pub done : taken (machineIn z s) r c ≡ false → Came z s s′ a (forOf (machineIn z s) (z .timers + i) i r c n counts)
 
 -- A true condition: the call returns.
 pub for-done
@@ -67,7 +69,7 @@ for-done {z} {s} {s₁} {i} {r} {c} {n} {counts} h e w =
     let k : condition (machineIn z s) c ≡ true = sym (h .answer) ∙ e in
     record {
       refused = λ t. absurd (true-false (sym t ∙ taken-true (machineIn z s) r c k));
-      done = λ t. record { holds = w .holds; reply = rw k; told = rw k; machine = rw k (w .machine) };
+      done = λ t. record { holds = w .holds; reply = rw k; told = rw k; machine = rw k (w .machine); touched = w .touched };
     }
 
 -- A false one, and another asleep there.
@@ -112,5 +114,5 @@ for-asleep {z} {s} {s₁} {i} {r} {c} {n} {counts} {l} a h e d f w =
     let y : taken (machineIn z s) r c ≡ false = taken-free (machineIn z s) r c (sleeper-of (holds-bounds (a .up .holds)) r ∙ ap linkTo (sym d ∙ f)) in
     record {
       refused = λ t. absurd (true-false (sym t ∙ y));
-      done = λ t. record { holds = w .holds; reply = rw k; told = rw k; machine = rw k (w .machine) };
+      done = λ t. record { holds = w .holds; reply = rw k; told = rw k; machine = rw k (w .machine); touched = w .touched };
     }

@@ -144,9 +144,9 @@ tsleep-for {z} {s} {s₁} {i} {r} {c} {d} {n} {counts} {w} {a} x f v e y = go (t
         let t : Tslept z s s false r c d n (Refused 5) = record { stepped = stepped-refused (number true g) (x .asks .well .holds) refl refl } in
         subst (λ (v : List ℕ). Tslept z s v false r c d n a) (sym (b .1)) (subst (Tslept z s s false r c d n) (sym (b .0)) t)
     go false g =
-        let o : Came z s₁ a (forOf m (z .timers + i) i r c n counts) = y .done g in
+        let o : Came z s s₁ a (forOf m (z .timers + i) i r c n counts) = y .done g in
         record {
           stepped =
-              stepped-done (number false g) (o .holds) (o .reply ∙ ap (λ (v : Outcome). v .reply) (sym is))
+              stepped-done (number false g) (o .holds) (o .touched) (o .reply ∙ ap (λ (v : Outcome). v .reply) (sym is))
               (o .told ∙ ap (λ (v : Outcome). told (v .reply)) (sym is)) (o .machine ∙ ap (λ (v : Outcome). v .after) (sym is));
         }

@@ -23,6 +23,7 @@ use Rattle.exact.specs.Bounds.{at-most}
 use Rattle.holds.specs.Holds.{Holds}
 use Rattle.holds.specs.Whole.{holds-bounds}
 use Rattle.holds.specs.Did.{machineIn}
+use Rattle.holds.specs.Touched.{Touched, touched-join, touched-did}
 use Rattle.dat.specs.Asleep.{asleepIn}
 use Rattle.dat.specs.Own.{StopAsks, Stopped, CallAsks, Called}
 use Rattle.dat.specs.Waitr.{WaitAsks, Waited}
@@ -37,6 +38,7 @@ pub record AloneAsks (z : Sizes) (s : List ℕ) (i : ℕ) : Type 0 where
 pub record WentAsleep (z : Sizes) (s s′ : List ℕ) (i : ℕ) : Type 0 where
   pub holds : Holds z s′ 0
   pub machine : machineIn z s′ ≡ sleepOnWaitr i machine.inWait (machineIn z s)
+  pub touched : Touched z s s′
 
 pub alone-stop : {z : Sizes} {s : List ℕ} {i : ℕ} → AloneAsks z s i → StopAsks z s
 alone-stop a = record { owed = 0; holds = a .holds }
@@ -100,6 +102,7 @@ went-asleep {z} {s} {s₁} {s₂} {s₃} {i} a t d p =
           ∙ sleep-on (machineIn z s) i machine.inWait (machineIn z s₂)
           (d .did .machine ∙ ap (λ (x : Machine). withProcess i (withResume machine.inWait (process x i)) x) (t .did .machine))
           (omega (arith, table-length (z .processes) (processAt (memIn z s)), low));
+      touched = touched-join (touched-join (touched-did (t .did)) (touched-did (d .did))) (touched-did (p .did));
     }
   where
     low : i < z .processes

@@ -21,6 +21,7 @@ use Rattle.exact.specs.Parts.{lock-of, pid-of}
 use Rattle.holds.specs.Holds.{Holds}
 use Rattle.holds.specs.Whole.{holds-bounds}
 use Rattle.holds.specs.Did.{Did, did, did-join, did-as, machineIn, same, more}
+use Rattle.holds.specs.Touched.{Touched, touched-did}
 use Rattle.places.specs.Others.{others, keeps-with}
 use Rattle.places.specs.Machines.{lockWith}
 use Rattle.places.specs.Lock.{heldMem, held-machine, held-placed, dequeueMem}
@@ -106,6 +107,7 @@ pub record Handed (z : Sizes) (s s′ : List ℕ) (q l : ℕ) : Type 0 where
   pub machine : machineIn z s′ ≡ handOver q (machineIn z s) .machine
   pub readied : pidsOf (memIn z s) l ≡ handOver q (machineIn z s) .readied
   pub range : l ≤ z .processes
+  pub touched : Touched z s s′
 
 hand-none : (m : Machine) (q : ℕ) → lock m q .waiters ≡ [] → (handOver q m .machine ≡ withLock q (record { held = false; waiters = [] }) m) × (handOver q m .readied ≡ [])
 unfolding handOver
@@ -140,6 +142,7 @@ handed-none {z} {s} {s₁} {s₂} {q} {l} a d e p =
       machine = y .machine;
       readied = sym (h .1);
       range = omega arith;
+      touched = touched-did y;
     }
 
 pub hand-awaken : {z : Sizes} {s s₁ : List ℕ} {q l : ℕ} → HandAsks z s q → Dequeued z s s₁ q l → (l ≡ 0 → ⊥) → AwakenAsks z s₁ (l - 1)
@@ -175,6 +178,7 @@ handed-one {z} {s} {s₁} {s₂} {q} {l} a d ne w =
       machine = y .machine;
       readied = ap (pidsOf m) e ∙ ap (λ (x : ℕ). x ∷ []) (sym (pid-of (holds-bounds (a .holds)) i)) ∙ sym (h .1);
       range = d .range;
+      touched = touched-did y;
     }
   where
     none-some : {x : ℕ} {xs : List ℕ} → x ∷ xs ≡ [] → ⊥

@@ -18,7 +18,7 @@ use Rattle.exact.specs.Bounds.{InBounds, in-bounds, at-most}
 use Rattle.holds.specs.Holds.{Holds}
 use Rattle.holds.specs.Whole.{holds-bounds}
 use Rattle.holds.specs.Frames.{ages-same}
-use Rattle.holds.specs.Did.{Did, machineIn, same, writesIn}
+use Rattle.holds.specs.Did.{Did, machineIn, same, writesIn, WritableIn, writable-join}
 use Rattle.places.specs.Nowhere.{Nowhere}
 use Rattle.free.specs.Asks.{records-in}
 use Rattle.free.specs.UseRecord.{useRecordWrites, UseRecordAsks, UseRecordDone, use-asks}
@@ -145,10 +145,18 @@ module _ {z : Sizes} {s : List ℕ} {i : ℕ} {p : Proc} {v : ℕ} (a : AdoptAsk
               long = stored .state .long;
             }
             in
+            let all : List Write = useRecordWrites (z .processes) m i ++ ageInStores m i in
+            let new : List Write = recordStores i (newRecord (takenMem (z .processes) m i) i p v) in
+            let ok : WritableIn z (all ++ new) =
+            writable-join z all new
+            (writable-join z (useRecordWrites (z .processes) m i) (ageInStores m i) (d₁ .writable)
+            (subst (λ (x : Memory). WritableIn z (ageInStores x i)) (d₁ .memory) (d₂ .writable)))
+            (subst (λ (x : Memory). WritableIn z (recordStores i (newRecord x i p v))) taken (stored .writable))
+            in
             let b : InBounds (sizesIn z) m = holds-bounds (a .holds) in
             record {
               did =
-                  did-stored (stored .state) (wrote-runs first next last .bytes) e
+                  did-stored (stored .state) (wrote-runs first next last .bytes) ok e
                   (λ n q. adopt-keeps b (a .index) (a .free) (a .text .length) (a .new) q words)
                   (adopt-machine b (a .index) (a .free) (a .text .length) (a .new));
               nowhere =

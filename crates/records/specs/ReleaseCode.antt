@@ -1,6 +1,6 @@
 -- What `release` asks and ensures, and what its code shows.
 use mathlib.Core.Path.{_≡_, refl, sym, ap, subst, _∙_}
-use mathlib.Core.List.{List}
+use mathlib.Core.List.{List, _++_}
 use Prim.Native.Nat.{ℕ, _<_}
 use native.Mathlib.Omega.{arith}
 use Rattle.machine.specs.Basics.{elem}
@@ -10,6 +10,7 @@ use Rattle.machine.specs.Exits.{found}
 use Rattle.layout.specs.Table.{slot}
 use Rattle.layout.specs.Memory.{Memory}
 use Rattle.chain.specs.Links.{alter-same}
+use Rattle.layout.specs.Writes.{Write}
 use Rattle.state.specs.Fields as fields
 use Rattle.state.specs.Abs.{machineOf}
 use Rattle.state.specs.Places.{sizesIn, memIn, PutIn, Wrote, wrote-runs}
@@ -19,7 +20,7 @@ use Rattle.exact.specs.Bounds.{InBounds, inside}
 use Rattle.holds.specs.Holds.{Holds}
 use Rattle.holds.specs.Whole.{holds-bounds}
 use Rattle.holds.specs.Frames.{index-same}
-use Rattle.holds.specs.Did.{Did, machineIn, same, writesIn, wrote-2}
+use Rattle.holds.specs.Did.{Did, machineIn, same, writesIn, WritableIn, writable-join, wrote-2}
 use Rattle.places.specs.Nowhere.{Nowhere}
 use Rattle.free.specs.Asks.{records-in}
 use Rattle.free.specs.UseRecord.{dropRecordWrites, dropRecordMem, DropRecordAsks, DropRecordDone, drop-asks}
@@ -89,6 +90,13 @@ module _ {z : Sizes} {s : List ℕ} {i : ℕ} (a : ReleaseAsks z s i) where
         record { bytes = d₂ .bytes ∙ ap (λ (x : Memory). writesIn z s₁ (dropRecordWrites n x i)) (d₁ .memory); long = d₂ .state .long }
         in
         let then : Wrote z s₂ s₄ (goneStores i) = record { bytes = last .bytes; long = last .state .long } in
+        let all : List Write = ageOutStores m i ++ dropRecordWrites n m i in
+        let ok : WritableIn z (all ++ goneStores i) =
+        writable-join z all (goneStores i)
+        (writable-join z (ageOutStores m i) (dropRecordWrites n m i) (d₁ .writable)
+        (subst (λ (x : Memory). WritableIn z (dropRecordWrites n x i)) (d₁ .memory) (d₂ .writable)))
+        (last .writable)
+        in
         let words : Index (sizesIn z) (releaseMem n m i) =
         dropped-record (a .holds .sizes) (d₁ .state) out-index (releaseMem n m i) d₂ out-used
         (subst (λ (x : Memory). ButPid x (releaseMem n m i) i) (sym dropped)
@@ -103,7 +111,7 @@ module _ {z : Sizes} {s : List ℕ} {i : ℕ} (a : ReleaseAsks z s i) where
         let e : memIn z s₄ ≡ releaseMem n m i = last .memory ∙ ap (λ (x : Memory). goneMem x i) dropped in
         record {
           did =
-              did-stored (last .state) (wrote-runs first next then .bytes) e
+              did-stored (last .state) (wrote-runs first next then .bytes) ok e
               (λ o q. release-keeps b (a .nowhere) (a .exits) q words)
               (release-machine b (a .nowhere));
           found = λ q ne.

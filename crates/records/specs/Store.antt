@@ -130,14 +130,16 @@ pub did-stored
     : {z : Sizes} {s s′ : List ℕ} {ws : List Write} {k : Memory} {a : Machine}
     → StateIn z s′
     → s′ ≡ writesIn z s ws
+    → WritableIn z ws
     → memIn z s′ ≡ k
     → ((n : ℕ) → Keeps (sizesIn z) (memIn z s) n → Keeps (sizesIn z) k n)
     → machineOf (sizesIn z) k ≡ a
     → Did z s s′ same same ws k a
-did-stored {z} t b e keeps m =
+did-stored {z} t b ok e keeps m =
     record {
       holds = λ n g. record { sizes = g .sizes; state = t; keeps = subst (λ (y : Memory). Keeps (sizesIn z) y n) (sym e) (keeps n (g .keeps)) };
       bytes = b;
+      writable = ok;
       memory = e;
       machine = ap (machineOf (sizesIn z)) e ∙ m;
     }

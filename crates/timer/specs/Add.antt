@@ -15,6 +15,7 @@ use Rattle.timers.specs.Find.{timersIn, queueIn, spotIn}
 use Rattle.timers.specs.Out.{none-absent}
 use Rattle.timers.specs.Insert.{insertStores, insertMem, linkMem, headField, queuedIn, InsertAsks, Inserted, Entered}
 use Rattle.holds.specs.Holds.{Holds}
+use Rattle.holds.specs.Touched.{Touched, touched-join}
 use Rattle.timer.specs.Only.{Owing, owing-after, aside, Only, only-none, only-set}
 use Rattle.timer.specs.Aside.{holds-aside}
 use Rattle.timer.specs.Del.{machineIn, delStores, delMem, TimerAsks, Deleted, timers-of}
@@ -46,6 +47,7 @@ pub record QueuedAt (z : Sizes) (s s′ : List ℕ) (t d : ℕ) : Type 0 where
   pub wrote : Wrote z s s′ (queueStores z (memIn z s) t d)
   pub memory : memIn z s′ ≡ queueMem z (memIn z s) t d
   pub machine : machineIn z s′ ≡ withQueued (insert (record { timer = t; deadline = d }) (machineIn z s .queued)) (machineIn z s)
+  pub touched : Touched z s s′
 
 pub record Added (z : Sizes) (s s′ : List ℕ) (t d : ℕ) : Type 0 where
   pub holds : (n : ℕ) → Holds z s n → Holds z s′ n
@@ -53,6 +55,7 @@ pub record Added (z : Sizes) (s s′ : List ℕ) (t d : ℕ) : Type 0 where
   pub wrote : Wrote z s s′ (addStores z (memIn z s) t d)
   pub memory : memIn z s′ ≡ addMem z (memIn z s) t d
   pub machine : machineIn z s′ ≡ add t d (machineIn z s)
+  pub touched : Touched z s s′
 
 pub insert-asks : {z : Sizes} {s : List ℕ} {t : ℕ} → QueueAsks z s t → InsertAsks z s t
 insert-asks {z} {s} {t} a =
@@ -103,6 +106,7 @@ queued {z} {s} {s′} {t} {d} a r =
       machine =
           ap (λ (k : Memory). machineOf (sizesIn z) k) e
           ∙ machine-insert z m (spotIn z m d) t d (subst (λ (k : Memory). Entered z m k t d) e (r .entered));
+      touched = record { stores = queueStores z m t d; writable = r .writable; bytes = r .wrote .bytes };
     }
 
 pub queue-asks : {z : Sizes} {s s₁ : List ℕ} {t : ℕ} → TimerAsks z s t → Deleted z s s₁ t → QueueAsks z s₁ t
@@ -126,4 +130,5 @@ added {z} {s} {s₁} {s₂} {t} {d} a o q =
           q .machine
           ∙ ap (λ (x : Machine). withQueued (insert (record { timer = t; deadline = d }) (x .queued)) x) (o .machine)
           ∙ machine-add t d (machineIn z s);
+      touched = touched-join (o .touched) (q .touched);
     }

@@ -17,6 +17,7 @@ use Rattle.timers.specs.Insert.{queuedIn}
 use Rattle.timers.specs.Remove.{removeStores, removeMem, headOut, linksOut, RemoveAsks, Removed, Left}
 use Rattle.timers.specs.Seek.{beforeIn}
 use Rattle.holds.specs.Holds.{Holds}
+use Rattle.holds.specs.Touched.{Touched}
 use Rattle.timer.specs.Only.{Owing, owing-after, aside, Only, only-none, only-set}
 use Rattle.timer.specs.Aside.{holds-aside}
 
@@ -45,6 +46,7 @@ pub record Deleted (z : Sizes) (s s′ : List ℕ) (t : ℕ) : Type 0 where
   pub machine : machineIn z s′ ≡ delete t (machineIn z s)
   pub off : memIn z s′ fields.isQueued t ≡ 0
   pub deadlines : memIn z s′ fields.deadline ≡ memIn z s fields.deadline
+  pub touched : Touched z s s′
 
 -- What the queue of timers alone asks.
 pub timers-of : {z : Sizes} {s : List ℕ} → Owing z s → TimersIn z s
@@ -96,4 +98,5 @@ deleted {z} {s} {s′} {t} a r =
           ∙ machine-delete z m (m fields.isQueued t) (beforeIn z m t) t (subst (λ (k : Memory). Left z m k t) e (r .left));
       off = ap (λ (k : Memory). k fields.isQueued t) e ∙ alter-same (m fields.isQueued) t 0;
       deadlines = ap (λ (k : Memory). k fields.deadline) e;
+      touched = record { stores = delStores z m t; writable = r .writable; bytes = r .wrote .bytes };
     }

@@ -18,6 +18,7 @@ use Rattle.timers.specs.Entries.{entries}
 use Rattle.timers.specs.Insert.{queuedIn, queued-machine}
 use Rattle.exact.specs.Parts.{walk-none}
 use Rattle.holds.specs.Holds.{Holds}
+use Rattle.holds.specs.Touched.{Touched, touched-none}
 use Rattle.timer.specs.Only.{Owing}
 use Rattle.timer.specs.Del.{machineIn, delStores, delMem, Deleted}
 use Rattle.timer.specs.Pop.{PopAsks, pop-asks, split-head, remove-head}
@@ -56,6 +57,7 @@ pub record PoppedDue (z : Sizes) (s s′ : List ℕ) (reading r : ℕ) : Type 0 
   pub off : (t : ℕ) → r ≡ suc t → memIn z s′ fields.isQueued t ≡ 0
   -- the deadlines stay, also that of a timer that is off the queue
   pub deadlines : memIn z s′ fields.deadline ≡ memIn z s fields.deadline
+  pub touched : Touched z s s′
 
 -- What the code of `pop_due` shows: no head, a later one, and one that is due.
 nothing-due : {z : Sizes} {s : List ℕ} {reading : ℕ} → Owing z s → Later reading (queuedIn z (memIn z s)) → PoppedDue z s s reading 0
@@ -70,6 +72,7 @@ nothing-due {z} {s} {reading} o l =
       head = λ t e. absurd (omega (arith, e));
       off = λ t e. absurd (omega (arith, e));
       deadlines = refl;
+      touched = touched-none;
     }
 
 pub popped-none : {z : Sizes} {s : List ℕ} {reading link : ℕ} → Owing z s → link ≡ memIn z s fields.timerHead 0 → link ≡ 0 → PoppedDue z s s reading 0
@@ -155,4 +158,5 @@ popped-due {z} {s} {s′} {reading} {link} {deadline} o e ne q l d =
               subst (λ (v : ℕ). HeadDue (machineIn z s) (machineIn z s′) reading v (memIn z s fields.deadline v)) h f;
           off = λ u y. let h : t ≡ u = omega (arith, y) in subst (λ (v : ℕ). memIn z s′ fields.isQueued v ≡ 0) h (k .off);
           deadlines = k .deadlines;
+          touched = k .touched;
         })

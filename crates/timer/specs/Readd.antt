@@ -19,6 +19,7 @@ use Rattle.state.specs.Places.{sizesIn, memIn, Wrote}
 use Rattle.state.specs.declared.Sizes.{Sizes}
 use Rattle.timers.specs.Find.{timersIn}
 use Rattle.holds.specs.Holds.{Holds}
+use Rattle.holds.specs.Touched.{Touched, touched-none}
 use Rattle.timer.specs.Only.{Owing}
 use Rattle.timer.specs.Del.{machineIn}
 use Rattle.timer.specs.Add.{queueStores, queueMem, QueuedAt}
@@ -50,6 +51,7 @@ pub record Readded (z : Sizes) (s s′ : List ℕ) (t : ℕ) : Type 0 where
   pub wrote : Wrote z s s′ (readdStores z (memIn z s) t (periodIn z (memIn z s) t))
   pub memory : memIn z s′ ≡ readdMem z (memIn z s) t (periodIn z (memIn z s) t)
   pub machine : machineIn z s′ ≡ readd (record { timer = t; deadline = memIn z s fields.deadline t }) (machineIn z s)
+  pub touched : Touched z s s′
 
 -- That period is the machine's.
 abbrev settingAt : Memory → ℕ → Setting
@@ -76,6 +78,7 @@ stays z s t o e =
       wrote = rw e (record { bytes = refl; long = o .holds .state .long });
       memory = rw e;
       machine = rw (period-of z (memIn z s) t, e);
+      touched = touched-none;
     }
 
 pub readded-own : {z : Sizes} {s : List ℕ} {t : ℕ} → ReaddAsks z s t → z .timers ≤ t → Readded z s s t
@@ -105,6 +108,7 @@ returns-at z s s′ t (suc p) e ne q =
       wrote = rw e (q .wrote);
       memory = rw e (q .memory);
       machine = rw (period-of z (memIn z s) t, e, ne-eqb (suc p) 0 ne) (q .machine);
+      touched = q .touched;
     }
 
 pub readded

@@ -82,6 +82,7 @@ pub record Entered (z : Sizes) (m m′ : Memory) (t d : ℕ) : Type 0 where
 pub record Inserted (z : Sizes) (s s′ : List ℕ) (t d : ℕ) : Type 0 where
   pub timers : TimersIn z s′
   pub wrote : Wrote z s s′ (insertStores (memIn z s) (spotIn z (memIn z s) d) t d)
+  pub writable : Writable fields.layout1 (fields.mostOf (sizesIn z)) (fields.counts (sizesIn z)) (insertStores (memIn z s) (spotIn z (memIn z s) d) t d)
   pub memory : memIn z s′ ≡ insertMem (memIn z s) (spotIn z (memIn z s) d) t d
   pub entered : Entered z (memIn z s) (memIn z s′) t d
 
@@ -235,6 +236,7 @@ inserted {z} {s} {s₁} {s₂} {s₃} {t} {d} {at} a f w p₁ p₂ b =
             chain = n .chain;
           };
       wrote = all;
+      writable = ok;
       memory = e;
       entered = n;
     }

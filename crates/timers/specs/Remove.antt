@@ -67,6 +67,7 @@ pub record Left (z : Sizes) (m m′ : Memory) (t : ℕ) : Type 0 where
 pub record Removed (z : Sizes) (s s′ : List ℕ) (t : ℕ) : Type 0 where
   pub timers : TimersIn z s′
   pub wrote : Wrote z s s′ (removeStores (memIn z s) (memIn z s fields.isQueued t) (beforeIn z (memIn z s) t) t)
+  pub writable : Writable fields.layout1 (fields.mostOf (sizesIn z)) (fields.counts (sizesIn z)) (removeStores (memIn z s) (memIn z s fields.isQueued t) (beforeIn z (memIn z s) t) t)
   pub memory : memIn z s′ ≡ removeMem (memIn z s) (memIn z s fields.isQueued t) (beforeIn z (memIn z s) t) t
   pub left : Left z (memIn z s) (memIn z s′) t
 
@@ -214,6 +215,7 @@ removed z s s′ t a w =
             chain = n .chain;
           };
       wrote = w;
+      writable = ok;
       memory = e;
       left = n;
     }

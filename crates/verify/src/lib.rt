@@ -11,7 +11,7 @@ ghost use Rattle.machine.specs.Good.{SizesInRange};
 ghost use Rattle.verify.specs.Ways.{SizesRead, Marks, FactsIn, CheckedIn};
 
 // The sizes that the header names.
-fn load_sizes(s: &[u8]) -> Sizes
+pub fn load_sizes(s: &[u8]) -> Sizes
     requires { ⌜ 80 ≤ length (now s) ⌝ }
     ensures { λ z. ⌜ SizesRead (now (s .entry)) z ⌝ }
 {

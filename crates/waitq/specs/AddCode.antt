@@ -17,7 +17,7 @@ use Rattle.state.specs.declared.Sizes.{Sizes}
 use Rattle.exact.specs.Tables.{some-link}
 use Rattle.holds.specs.Whole.{holds-bounds}
 use Rattle.holds.specs.Frames.{cells-same}
-use Rattle.holds.specs.Did.{Did, machineIn, same}
+use Rattle.holds.specs.Did.{Did, machineIn, same, WritableIn, writable-join}
 use Rattle.free.specs.Asks.{CellsIn, cells-in}
 use Rattle.free.specs.FindCell.{CellFound}
 use Rattle.free.specs.UseCell.{useCellWrites, useCellMem, UseCellAsks, UseCellDone, use-cell-asks}
@@ -122,6 +122,18 @@ module _ {z : Sizes} {s : List ℕ} {i : ℕ} (a : AddAsks z s i) where
           (record { bytes = u .bytes; long = u .state .long })
           (wrote-join z (messageStores (127 * c) (message name pid status)) (pushStores (memIn z s) i c pid (length (message name pid status))) (w .wrote) p)
 
+      writable-then : WritableIn z (addStores (z .cells) (memIn z s) i c pid (message name pid status))
+      unfolding addStores cellStores headStores pushStores
+      writable-then =
+          let p : WritableIn z (pushStores (memIn z s) i c pid (length (message name pid status))) =
+          subst (λ (k : Memory). WritableIn z (pushStores k i c pid (length (message name pid status)))) before-push
+          (subst (λ (k : ℕ). WritableIn z (pushStores (memIn z s₂) i c pid k)) (w .answer) (d .stored .writable))
+          in
+          writable-join z (useCellWrites (z .cells) (memIn z s) c)
+          (messageStores (127 * c) (message name pid status) ++ pushStores (memIn z s) i c pid (length (message name pid status)))
+          (u .writable)
+          (writable-join z (messageStores (127 * c) (message name pid status)) (pushStores (memIn z s) i c pid (length (message name pid status))) (w .writable) p)
+
       did-then
           : Did z s s₃ same same (addStores (z .cells) (memIn z s) i c pid (message name pid status))
           (addMem (z .cells) (memIn z s) i c pid (message name pid status))
@@ -137,6 +149,7 @@ module _ {z : Sizes} {s : List ℕ} {i : ℕ} (a : AddAsks z s i) where
                   keeps = changed-keeps (holds-bounds h) (h .keeps) (a .used) same-then changed-then index-then;
                 };
             bytes = wrote-then .bytes;
+            writable = writable-then;
             memory = memory-then;
             machine =
                 ap (machineOf (sizesIn z)) memory-then

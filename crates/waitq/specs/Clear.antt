@@ -18,7 +18,7 @@ use Rattle.state.specs.declared.Sizes.{Sizes}
 use Rattle.exact.specs.Bounds.{inside}
 use Rattle.holds.specs.Holds.{Holds}
 use Rattle.holds.specs.Whole.{holds-bounds}
-use Rattle.holds.specs.Did.{Did, writesIn, machineIn, same}
+use Rattle.holds.specs.Did.{Did, writesIn, WritableIn, writable-join, machineIn, same}
 use Rattle.waitq.specs.Change.{Changed}
 use Rattle.waitq.specs.Join.{changed-join, changed-none}
 use Rattle.waitq.specs.Stored.{nexits-reach}
@@ -58,6 +58,7 @@ pub record Clearing (z : Sizes) (s₀ s : List ℕ) (i k : ℕ) : Type 0 where
   pub long : length s ≡ length s₀
   pub holds : (n : ℕ) → Holds z s₀ n → Holds z s n
   pub bytes : s ≡ writesIn z s₀ (takesStores (z .cells) (memIn z s₀ fields.nexits i - k) (memIn z s₀) i)
+  pub writable : WritableIn z (takesStores (z .cells) (memIn z s₀ fields.nexits i - k) (memIn z s₀) i)
   pub memory : memIn z s ≡ takesMem (z .cells) (memIn z s₀ fields.nexits i - k) (memIn z s₀) i
   pub changed : Changed (sizesIn z) (memIn z s₀) (memIn z s) i (exitList (memIn z s) i)
 
@@ -75,6 +76,7 @@ clear-start {z} {s} {i} {k} a e =
       long = refl;
       holds = λ n h. h;
       bytes = rw d;
+      writable = rw d tt;
       memory = rw d;
       changed = changed-none (holds-bounds (a .holds)) (a .holds .keeps .cells) (a .used);
     }
@@ -125,6 +127,10 @@ clear-step {z} {s₀} {s} {s′} {i} {k} {k′} {r} c l t e =
           ∙ sym
           (writes-join fields.layout1 (fields.counts (sizesIn z)) s₀ (takesStores (z .cells) (N - k) (memIn z s₀) i)
           (takeStores (z .cells) m i (m fields.exits i - 1))));
+      writable =
+          rw q
+          (writable-join z (takesStores (z .cells) (N - k) (memIn z s₀) i) (takeStores (z .cells) m i (m fields.exits i - 1)) (c .writable)
+          (subst (WritableIn z) (ap₂ (λ (y : Memory) (x : ℕ). takeStores (z .cells) y i x) (c .memory) f) (t .did .writable)));
       memory = rw q (t .did .memory ∙ ap₂ (λ (y : Memory) (x : ℕ). takeMem (z .cells) y i x) (c .memory) f);
       changed = changed-join (inside (holds-bounds (c .asks .holds)) fields.pid i (c .asks .used)) (c .changed) g;
     }
@@ -146,6 +152,7 @@ clear-end {z} {s₀} {s} {i} {k} c l =
           record {
             holds = c .holds;
             bytes = rw q at (c .bytes);
+            writable = rw q at (c .writable);
             memory = rw q at (c .memory);
             machine = d .machine;
           };

@@ -54,6 +54,7 @@ nexits-reach a u =
 pub record Stored (z : Sizes) (s s′ : List ℕ) (ws : List Write) (i : ℕ) (ys : List ℕ) : Type 0 where
   pub cells : ExitsIn z s′
   pub wrote : Wrote z s s′ ws
+  pub writable : Writable fields.layout1 (fields.mostOf (sizesIn z)) (fields.counts (sizesIn z)) ws
   pub memory : memIn z s′ ≡ updates (memIn z s) ws
   pub changed : Changed (sizesIn z) (memIn z s) (memIn z s′) i ys
 
@@ -79,6 +80,7 @@ stored-by {z} {s} {s′} {ws} {i} {ys} a w r d =
             cells = d′ .cells;
           };
       wrote = w;
+      writable = r;
       memory = e;
       changed = d′;
     }

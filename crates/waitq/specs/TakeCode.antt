@@ -15,6 +15,7 @@ use Rattle.state.specs.Places.{sizesIn, memIn, ReachIn, Wrote, wrote-join}
 use Rattle.state.specs.WellFormed.{Used, Cells, Index}
 use Rattle.state.specs.declared.Sizes.{Sizes}
 use Rattle.holds.specs.Whole.{holds-bounds}
+use Rattle.holds.specs.Did.{WritableIn, writable-join}
 use Rattle.free.specs.Asks.{cells-in}
 use Rattle.free.specs.UseCell.{dropCellWrites, dropCellMem, DropCellAsks, DropCellDone, drop-cell-asks}
 use Rattle.free.specs.Restored.{ButOwner, dropped-cell}
@@ -47,13 +48,22 @@ record From (z : Sizes) (k : Memory) (s₁ s₂ : List ℕ) (i r : ℕ) : Type 0
   link : r ≡ k fields.exits i
   list : exitList k i ≡ (r - 1) ∷ exitList (memIn z s₂) i
   wrote : Wrote z s₁ s₂ (popStores k i (r - 1))
+  writable : WritableIn z (popStores k i (r - 1))
   changed : Changed (sizesIn z) k (memIn z s₂) i (rest (exitList k i))
   newest : newest (process (machineOf (sizesIn z) k) i) ≡ exitAt k (r - 1)
   machine : machineOf (sizesIn z) (memIn z s₂) ≡ withProcess i (takeExit (process (machineOf (sizesIn z) k) i)) (machineOf (sizesIn z) k)
 
 from-pop : {z : Sizes} {s₁ s₂ : List ℕ} {i r : ℕ} → PopDone z s₁ s₂ i r → From z (memIn z s₁) s₁ s₂ i r
 from-pop p =
-    record { link = p .link; list = p .list; wrote = p .stored .wrote; changed = p .stored .changed; newest = p .newest; machine = p .machine }
+    record {
+      link = p .link;
+      list = p .list;
+      wrote = p .stored .wrote;
+      writable = p .stored .writable;
+      changed = p .stored .changed;
+      newest = p .newest;
+      machine = p .machine;
+    }
 
 from-mark : {z : Sizes} {s₁ s₂ : List ℕ} {i r : ℕ} (m : Memory) (c : ℕ) → From z (dropCellMem (z .cells) m c) s₁ s₂ i r → From z m s₁ s₂ i r
 unfolding machineOf processAt exitAt exitList runList waiterList timerList waitsOn popStores headStores
@@ -62,6 +72,7 @@ from-mark {z} m c f =
       link = f .link;
       list = f .list;
       wrote = f .wrote;
+      writable = f .writable;
       changed = dropped-changed (sizesIn z) (z .cells) m c (f .changed);
       newest = f .newest;
       machine = f .machine;
@@ -144,6 +155,9 @@ module _ {z : Sizes} {s : List ℕ} {i : ℕ} (a : TakeAsks z s i) where
                     };
                 bytes =
                     wrote-join z (dropCellWrites (z .cells) (memIn z s) (r - 1)) (popStores (memIn z s) i (r - 1)) marked (taken .wrote) .bytes;
+                writable =
+                    writable-join z (dropCellWrites (z .cells) (memIn z s) (r - 1)) (popStores (memIn z s) i (r - 1)) (rw the-link (d .writable))
+                    (taken .writable);
                 memory = memory-then;
                 machine = taken .machine;
               };

@@ -54,6 +54,7 @@ pub record MessageIn (z : Sizes) (s s′ : List ℕ) (c : ℕ) (name : List ℕ)
   pub state : State fields.layout1 (fields.mostOf (sizesIn z)) (fields.counts (sizesIn z)) s′
   pub bytes : s′ ≡ sets s (startIn z 7 + 127 * c) (message name pid status)
   pub wrote : Wrote z s s′ (messageStores (127 * c) (message name pid status))
+  pub writable : Writable fields.layout1 (fields.mostOf (sizesIn z)) (fields.counts (sizesIn z)) (messageStores (127 * c) (message name pid status))
   pub memory : memIn z s′ ≡ messageMem (memIn z s) c (message name pid status)
   pub answer : r ≡ length (message name pid status)
   pub within : r ≤ 127
@@ -127,6 +128,7 @@ message-in {z} {s} {s′} {part} {c} {at} {name} {pid} {status} {r} a e w d f =
       state = st;
       bytes = b;
       wrote = record { bytes = v; long = st .long };
+      writable = x;
       memory = rw v (written (ranges (sizesIn z) (a .sizes)) (a .state) (messageStores (127 * c) bs) x ∙ updates-message (memIn z s) (127 * c) bs);
       answer = w .answer;
       within = w .within;

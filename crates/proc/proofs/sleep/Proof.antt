@@ -1,0 +1,53 @@
+-- `proc::sleep` meets its contract: each need by its law.
+use Rattle.proc.specs.Outside.{sleep-condition, sleep-rendez}
+use borrow.Author.Needs.{needs}
+use Rattle.proc.proofs.sleep.Statement.{statement}
+use Rattle.proc.proofs.sleep.Tie as tie
+use Rattle.proc.proofs.sleep.Reads as reads
+use Rattle.proc.proofs.sleep.Lts as lts
+use Rattle.proc_sleep.proofs.sleep.Reads as sleep-reads
+
+-- src/lib.rt:60:18
+cast-if1 : tie.Need-cast-if1
+cast-if1 c = search needs
+
+-- src/lib.rt:61:9
+returns : tie.Need-returns
+returns c = search sleep-rendez
+
+-- src/lib.rt:64:9
+returns-2 : tie.Need-returns-2
+returns-2 c = search sleep-condition
+
+-- src/lib.rt:66:37
+cast-sleep : tie.Need-cast-sleep
+cast-sleep c = search needs
+
+-- src/lib.rt:66:54
+cast-sleep-2 : tie.Need-cast-sleep-2
+cast-sleep-2 c = search needs
+
+-- src/lib.rt:66:5
+sleep-requires : tie.Need-sleep-requires
+sleep-requires c κs = search needs
+
+-- src/lib.rt:56:1
+same-length : tie.Need-same-length
+same-length c = search needs
+
+-- src/lib.rt:56:1
+returns-3 : tie.Need-returns-3
+returns-3 c = search needs
+
+pub sleep-spec : {M : Type 1} → statement M
+sleep-spec =
+    tie.close
+    (tie.spec
+    cast-if1
+    returns
+    returns-2
+    cast-sleep
+    cast-sleep-2
+    sleep-requires
+    same-length
+    returns-3)
