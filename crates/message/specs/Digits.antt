@@ -22,12 +22,12 @@ digits-fuel (suc f) (suc g) n h l = go (ltb n 10) refl (λ t. digits-fuel f g (n
     go true e k = rw (e, digits)
     go false e k = rw (e, digits) (ap (λ (l : List ℕ). l ++ (48 + n % 10) ∷ []) (k (ltb-false n 10 e)))
 
-decimal-small : (n : ℕ) → n < 10 → decimal n ≡ (48 + n) ∷ []
+pub decimal-small : (n : ℕ) → n < 10 → decimal n ≡ (48 + n) ∷ []
 unfolding decimal digits
 decimal-small zero h = refl
 decimal-small (suc m) h = rw (decimal, digits, lt-ltb (suc m) 10 h)
 
-decimal-more : (n : ℕ) → 10 ≤ n → decimal n ≡ decimal (n / 10) ++ (48 + n % 10) ∷ []
+pub decimal-more : (n : ℕ) → 10 ≤ n → decimal n ≡ decimal (n / 10) ++ (48 + n % 10) ∷ []
 unfolding decimal digits
 decimal-more zero h = absurd (omega arith)
 decimal-more (suc m) h =

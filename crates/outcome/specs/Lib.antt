@@ -1,5 +1,6 @@
 -- What a step's answer stands for, what a step ensures, and the number that each step meets.
 pub mod Means
+pub mod Length
 pub mod Stepped
 pub mod Laws
 pub mod Room

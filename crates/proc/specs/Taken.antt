@@ -24,7 +24,7 @@ use Rattle.outcome.specs.declared.Reply.the-variants.{Pid, Run, RunChild, Done,
 use Rattle.outcome.specs.Means.{means, told, statusOf}
 use Rattle.outcome.specs.Stepped.{Well, Stepped, leftBytes}
 use Rattle.outcome.specs.Refusals.{step}
-use Rattle.proc_wait.specs.Length.{lengthOf}
+use Rattle.outcome.specs.Length.{lengthOf}
 use Rattle.proc.specs.Plain.{Plain}
 use Rattle.proc.specs.Silent.{tells, isChild, silent}
 

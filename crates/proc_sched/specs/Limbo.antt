@@ -28,7 +28,7 @@ use Rattle.places.specs.Rendez.{CallsRendez}
 use Rattle.dat.specs.Asleep.{asleepIn}
 use Rattle.dat.specs.Own.{CallAsks, Called, RunAsks, Ran}
 use Rattle.dat.specs.Rendez.{SleepAsks, Slept}
-use Rattle.proc_wait.specs.Length.{lengthOf}
+use Rattle.outcome.specs.Length.{lengthOf}
 use Rattle.outcome.specs.declared.Reply as code
 use Rattle.outcome.specs.declared.Reply.the-variants.{Run, Asleep}
 use Rattle.outcome.specs.Means.{means, told}

@@ -20,7 +20,7 @@ use Rattle.state.specs.Places.{memIn}
 use Rattle.state.specs.declared.Sizes.{Sizes}
 use Rattle.holds.specs.Did.{machineIn}
 use Rattle.holds.specs.Touched.{touched-none}
-use Rattle.proc_wait.specs.Length.{lengthOf}
+use Rattle.outcome.specs.Length.{lengthOf}
 use Rattle.outcome.specs.declared.Reply as code
 use Rattle.outcome.specs.declared.Reply.the-variants.{Idle, End, Refused}
 use Rattle.outcome.specs.Means.{means, told, statusOf}

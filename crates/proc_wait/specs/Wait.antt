@@ -50,7 +50,7 @@ use Rattle.outcome.specs.RefusalsExit.{isWaiting as callWaits, waiting, noChild
 use Rattle.outcome.specs.Room.{well-room}
 use Rattle.proc_sleep.specs.Running.{nobody-up, somebody-up, link-up, current-is}
 use Rattle.proc_wait.specs.declared.Gone.{Gone}
-use Rattle.proc_wait.specs.Length.{lengthOf}
+use Rattle.outcome.specs.Length.{lengthOf}
 use Rattle.proc_wait.specs.Copy.{CopyAsks, Copied, messageIn}
 use Rattle.proc_wait.specs.Sleep.{AloneAsks, WentAsleep}
 

@@ -27,7 +27,7 @@ use Rattle.outcome.specs.declared.Reply.{Reply}
 use Rattle.outcome.specs.declared.Reply.the-variants.{Pid, Run, RunChild, Done, Asleep, Yes, No, Fired, Exit, Child, Idle, End, Refused}
 use Rattle.outcome.specs.Means.{means, told}
 use Rattle.outcome.specs.Stepped.{Well}
-use Rattle.proc_wait.specs.Length.{lengthOf}
+use Rattle.outcome.specs.Length.{lengthOf}
 use Rattle.proc.specs.Taken.{Taken, statusIn, given}
 use Rattle.step.specs.declared.Words.{Words}
 use Rattle.step.specs.Words.{numberOf, answerNumber, firstOf, secondOf, Lent, lent, wordsAfter, theWords, wordsIn, WordsAre}

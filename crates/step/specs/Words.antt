@@ -9,7 +9,7 @@ use Rattle.machine.specs.Outcome.{Answer, answer, refused}
 use Rattle.outcome.specs.declared.Reply.{Reply}
 use Rattle.outcome.specs.declared.Reply.the-variants.{Pid, Run, RunChild, Done, Asleep, Yes, No, Fired, Exit, Child, Idle, End, Refused}
 use Rattle.outcome.specs.Means.{means, told}
-use Rattle.proc_wait.specs.Length.{lengthOf}
+use Rattle.outcome.specs.Length.{lengthOf}
 use Rattle.step.specs.declared.Words.{Words}
 
 -- The number of an answer: 32 and up, above every number of the table.
