@@ -76,7 +76,8 @@ impl Driver {
         }
     }
 
-    fn step(&mut self, marked: bool, step: Step) -> Result<Answer, String> {
+    /// Take a step, whose fields are in range.
+    pub fn step(&mut self, marked: bool, step: Step) -> Result<Answer, String> {
         if let Some(number) = guard::refusal(self, marked, &step) {
             return Ok(Answer::Refused(number));
         }
@@ -262,6 +263,12 @@ pub fn queued() -> Vec<*mut Proc<Host>> {
         address.cast_mut()
     };
     all.into_iter().map(keep).collect()
+}
+
+/// The pids in the run queue, from its head.
+pub fn queued_pids() -> Vec<u64> {
+    // SAFETY: the queued processes are alive.
+    queued().iter().map(|&p| unsafe { (*p).pid }).collect()
 }
 
 pub fn asleep() -> usize {

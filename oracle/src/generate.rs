@@ -10,6 +10,7 @@ mod times;
 use crate::driver::{self, Driver, queued};
 use crate::guard::{cells_in_use, next_meets_5};
 use crate::host::Host;
+use crate::parse::Step;
 use crate::perform::{Answer, parts};
 use crate::proc::preempt_due;
 use crate::random::Random;
@@ -18,7 +19,7 @@ use look::{family, locks, running, sleepers, tells_parent};
 use std::collections::VecDeque;
 use std::io::Write;
 
-/// The most firings of a list.
+/// The most firings of a list that is written.
 const LIST_FIRINGS: u64 = 300;
 
 #[derive(Clone, Copy, PartialEq, Debug)]
@@ -86,7 +87,7 @@ const MOODS: [Mood; 8] = [
     (&[Clock, Tadd, Intr, Due, Yield], &[]),
 ];
 
-struct Generator {
+pub struct Generator {
     random: Random,
     driver: Driver,
     mood: Mood,
@@ -98,16 +99,21 @@ struct Generator {
     count: u64,
 }
 
+/// What decides how often a kind is to come.
+struct Seen {
+    living: usize,
+    full: bool,
+    /// Whether preemption is due.
+    due: bool,
+    /// Whether the process next to run would meet 5.
+    stuck: bool,
+}
+
 /// Write `count` steps from `seed`.
 pub fn list(sizes: Sizes, seed: u64, count: u64, out: &mut impl Write) -> Result<(), String> {
-    let mut random = Random::new(seed);
-    let mood = random.pick(&MOODS);
-    let driver = Driver::new(sizes);
-    let plan = VecDeque::new();
-    let mut generator =
-        Generator { random, driver, mood, plan, firings: LIST_FIRINGS, steps: count, count };
-    while generator.steps > 0 {
-        let mut line = generator.next()?;
+    let mut generator = Generator::new(sizes, seed, count, LIST_FIRINGS);
+    while generator.left() > 0 {
+        let mut line = generator.step()?.0;
         line.push(b'\n');
         out.write_all(&line).map_err(|e| e.to_string())?;
     }
@@ -115,8 +121,31 @@ pub fn list(sizes: Sizes, seed: u64, count: u64, out: &mut impl Write) -> Result
 }
 
 impl Generator {
-    /// The next line, which has been run.
-    fn next(&mut self) -> Result<Vec<u8>, String> {
+    /// For `count` steps that fire about so many timers at most.
+    pub fn new(sizes: Sizes, seed: u64, count: u64, firings: u64) -> Generator {
+        let mut random = Random::new(seed);
+        let mood = random.pick(&MOODS);
+        let (driver, plan) = (Driver::new(sizes), VecDeque::new());
+        Generator { random, driver, mood, plan, firings, steps: count, count }
+    }
+
+    /// How many steps are left.
+    pub fn left(&self) -> u64 {
+        self.steps
+    }
+
+    /// Take these lines before others.
+    pub fn plan(&mut self, lines: impl IntoIterator<Item = String>) {
+        self.plan.extend(lines);
+    }
+
+    /// Run an exit with this status, which may be too long for a line.
+    pub fn exit_with(&mut self, status: Vec<u8>) -> Result<Answer, String> {
+        self.driver.step(false, Step::Exit(status))
+    }
+
+    /// The next line, which has been run, and its answer.
+    pub fn step(&mut self) -> Result<(Vec<u8>, Answer), String> {
         if self.plan.is_empty() && self.random.chance(8) {
             self.plan = self.new_plan().into();
         }
@@ -124,11 +153,12 @@ impl Generator {
             Some(line) => line.into_bytes(),
             None => self.free_line(),
         };
-        if let Answer::Fired(fired, _) = self.driver.line(&line)? {
+        let answer = self.driver.line(&line)?;
+        if let Answer::Fired(fired, _) = answer {
             self.firings = self.firings.saturating_sub(fired);
         }
-        self.steps -= 1;
-        Ok(line)
+        self.steps = self.steps.saturating_sub(1);
+        Ok((line, answer))
     }
 
     /// A line of a kind picked by the state.
@@ -148,29 +178,38 @@ impl Generator {
             (false, true, 1..) => 2,
             (false, true, 0) => 3,
         };
-        let weigh =
-            |(kind, weights): &(Kind, [u64; 4])| (weights[column] * self.times(*kind), *kind);
-        let choices: Vec<_> = WEIGHTS.iter().map(weigh).collect();
+        let seen = self.seen();
+        let weigh = |(kind, weights): &(Kind, [u64; 4])| {
+            (weights[column] * self.times(*kind, &seen), *kind)
+        };
+        let choices: [_; WEIGHTS.len()] = std::array::from_fn(|i| weigh(&WEIGHTS[i]));
         self.random.weighted(&choices)
     }
 
+    fn seen(&self) -> Seen {
+        let living = parts().living.borrow().len();
+        Seen {
+            living,
+            full: living >= self.driver.sizes.processes,
+            due: preempt_due::<Host>(),
+            stuck: next_meets_5(&self.driver),
+        }
+    }
+
     /// How often `kind` is to come, in tenths of its weight.
-    fn times(&self, kind: Kind) -> u64 {
+    fn times(&self, kind: Kind, seen: &Seen) -> u64 {
         let (often, seldom) = self.mood;
         let mood = match kind {
             _ if often.contains(&kind) => 6,
             _ if seldom.contains(&kind) => 1,
             _ => 2,
         };
-        mood * self.by_state(kind)
+        mood * self.by_state(kind, seen)
     }
 
     /// How often `kind` is to come in this state; 5 is as usual.
-    fn by_state(&self, kind: Kind) -> u64 {
-        let living = parts().living.borrow().len();
-        let full = living >= self.driver.sizes.processes;
-        let due = preempt_due::<Host>();
-        let stuck = next_meets_5(&self.driver);
+    fn by_state(&self, kind: Kind, seen: &Seen) -> u64 {
+        let Seen { living, full, due, stuck } = *seen;
         match kind {
             Sched if stuck => 1,
             Cond | Wakeup | Intr if stuck => 12,

@@ -15,7 +15,7 @@ use crate::mem::{PAGE_SIZE_4K, PhysAddr, VirtRange};
 use crate::pagealloc::PageAllocError;
 use crate::parse::Step;
 use crate::perform::{self, Answer};
-use crate::{clock, irq, proc, segment};
+use crate::{clock, irq, proc, segment, straight};
 use std::cell::{Cell, RefCell, UnsafeCell};
 use std::ptr;
 use std::sync::atomic::AtomicUsize;
@@ -126,7 +126,23 @@ fn mask() -> irq::Saved {
 fn restore(saved: irq::Saved) {
     MASKED.0.set(saved.0 != 0);
     if saved.0 == 0 && CONTEXT.0.get() == Context::Scheduler {
-        to_driver(&STOPPED);
+        CONTEXT.0.set(Context::Driver);
+        match next_turn() {
+            true => CONTEXT.0.set(Context::Scheduler),
+            false => to_driver(&STOPPED),
+        }
+    }
+}
+
+/// Take a script's steps up to the next turn of the scheduler; false where
+/// there is none.
+fn next_turn() -> bool {
+    loop {
+        match straight::next() {
+            None => return false,
+            Some(Step::Sched) => return true,
+            Some(step) => straight::perform(step),
+        }
     }
 }
 
@@ -168,12 +184,24 @@ pub fn resume_process(marked: bool, step: Step) -> Ended {
     ended()
 }
 
+/// Run the script to its end.
+pub fn run_script() {
+    if !Host::up().is_null() {
+        from_driver(&WAITING, Context::Process);
+    } else if next_turn() {
+        from_driver(&STOPPED, Context::Scheduler);
+    }
+}
+
 fn ended() -> Ended {
     if Host::up().is_null() { Ended::SwitchedOut } else { Ended::Waits(REPLY.0.take()) }
 }
 
 /// The start function of a process: load its program, one page, and run it.
 pub fn program() {
+    if straight::is_bare() {
+        obey();
+    }
     let range = VirtRange::new(Host::UTZERO, Host::UTZERO + PAGE_SIZE_4K);
     segment::map_zeroed::<Host>(range).expect("a page for the program");
     segment::set_segments::<Host>(vec![UserSegment { range, perm: Perm::Data }]);
@@ -189,8 +217,11 @@ extern "C" fn forked() -> ! {
 fn obey() -> ! {
     loop {
         MASKED.0.set(false);
+        while let Some(step) = straight::next() {
+            irq::masked(|| straight::perform(step));
+        }
         to_driver(&WAITING);
-        let (marked, step) = COMMAND.0.take().expect("a process resumed with no command");
+        let Some((marked, step)) = COMMAND.0.take() else { continue };
         let answer = irq::masked(|| perform::marked(marked, step));
         *REPLY.0.borrow_mut() = Some(answer);
     }
@@ -263,9 +294,13 @@ pub struct Stack(Box<[std::mem::MaybeUninit<u128>]>);
 
 const STACK_BYTES: usize = 64 * 1024;
 
+/// Stacks given back, for processes to come.
+static SPARE: Single<RefCell<Vec<Stack>>> = Single(RefCell::new(Vec::new()));
+
 impl Stack {
     fn new() -> Stack {
-        Stack(Box::new_uninit_slice(STACK_BYTES / 16))
+        let spare = SPARE.0.borrow_mut().pop();
+        spare.unwrap_or_else(|| Stack(Box::new_uninit_slice(STACK_BYTES / 16)))
     }
 
     fn top(&self) -> *mut u8 {
@@ -286,7 +321,7 @@ impl ProcArch for Host {
     }
 
     unsafe fn kstack_free(stack: Stack) {
-        drop(stack);
+        SPARE.0.borrow_mut().push(stack);
     }
 
     /// The frame that `switch` pops: six registers, then `entry` as the

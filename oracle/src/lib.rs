@@ -30,6 +30,7 @@ pub mod parse;
 pub mod perform;
 pub mod random;
 pub mod sizes;
+pub mod straight;
 mod uaccess;
 
 pub use libc::*;

@@ -35,8 +35,7 @@ fn listed(step: usize, answer: &Answer) -> Vec<u8> {
 
 /// The pids in the run queue, or None where it is empty.
 fn queue() -> Option<String> {
-    // SAFETY: the queued processes are alive.
-    let pids: Vec<_> = driver::queued().iter().map(|&p| unsafe { (*p).pid }.to_string()).collect();
+    let pids: Vec<_> = driver::queued_pids().iter().map(u64::to_string).collect();
     (!pids.is_empty()).then(|| pids.join(","))
 }
 

@@ -1,26 +1,12 @@
 //! Tries `size`, `make` and `check` from outside: their static libraries
 //! against an own reading of docs/STATE.md and of 01.
 
-mod bench;
-mod check_test;
-mod damage;
-mod encode;
-mod layout;
-mod library;
-mod machine;
-mod make_test;
-mod pairs;
-mod random;
-mod reader;
-mod simulate;
-mod slips;
-mod trial;
-
-use check_test::Amount;
-use random::Random;
+use outside::check_test::{self, Amount};
+use outside::random::Random;
+use outside::trial::Trial;
+use outside::{bench, layout, library, make_test, reader};
 use std::process::ExitCode;
 use std::time::Instant;
-use trial::Trial;
 
 const USAGE: &str = "usage: outside [long] [SEED], or outside bench";
 
@@ -55,7 +41,7 @@ fn time() -> ExitCode {
 
 fn test(amount: &Amount, seed: u64) -> ExitCode {
     let start = Instant::now();
-    let mut t = Trial::new();
+    let mut t = Trial::default();
     let mut rng = Random::new(seed);
     tables(&mut t, &mut rng);
     let (sizes, makes) = make_test::run(&mut t, &mut rng);

@@ -123,8 +123,8 @@ impl Outcome {
     }
 }
 
-impl Trial {
-    pub fn new() -> Trial {
+impl Default for Trial {
+    fn default() -> Trial {
         Trial {
             kinds: BTreeMap::new(),
             broken: [0; reader::COUNT],
@@ -135,7 +135,9 @@ impl Trial {
             richness: Richness::default(),
         }
     }
+}
 
+impl Trial {
     fn count(&mut self, kind: &'static str, broken: u64) {
         let count = self.kinds.entry(kind).or_default();
         if broken == 0 {

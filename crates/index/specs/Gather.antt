@@ -1,14 +1,14 @@
 -- A number made of bits, from the highest down: each turn doubles what there is and adds a bit.
-use mathlib.Core.Path.{_≡_, subst}
+use mathlib.Core.Path.{_≡_, refl, sym, subst, _∙_}
 use mathlib.Core.Bool.{Bool, true, false, not, _&&_}
 use Prim.Native.Nat.{ℕ, zero, suc, _+_, _-_, _*_, _^_, _≤_, _<_}
 use native.Mathlib.Omega.{arith}
 use native.Mathlib.Nat.{mul-add, mul-assoc, mul-one, mul-zero, mul-le-mul-right, one-le-pow, pow-suc, pow-le-pow-right}
-use borrow.Author.Tests.{lt-ltb, le-ltb}
+use borrow.Author.Tests.{lt-ltb, le-ltb, ltb-true, ltb-false}
 use lib.Dec.{ltb, eqb}
 use Rattle.machine.specs.Basics.{if_then_else_}
 use Rattle.state.specs.Abs.{isSet}
-use Rattle.state.specs.WellFormed.{bits}
+use Rattle.state.specs.WellFormed.{bits, inUse}
 
 -- One bit as a number.
 abbrev pub bitOf : Bool → ℕ
@@ -18,11 +18,22 @@ bitOf t = if t then 1 else 0
 abbrev pub usedBit : ℕ → (ℕ → ℕ) → ℕ → Bool
 usedBit n g k = ltb k n && isSet (g (n - 1 - k))
 
-pub bit-past : {n k : ℕ} (g : ℕ → ℕ) → n ≤ k → false ≡ usedBit n g k
+bit-past : {n k : ℕ} (g : ℕ → ℕ) → n ≤ k → usedBit n g k ≡ false
 bit-past {n} {k} g h = rw (le-ltb k n h)
 
 pub bit-in : {n k v : ℕ} (g : ℕ → ℕ) → k < n → v ≡ g (n - 1 - k) → not (eqb v 0) ≡ usedBit n g k
 bit-in {n} {k} {v} g h e = rw (lt-ltb k n h, e)
+
+-- r words have a bit for each of n, and each of them has one.
+pub record WordsFor (n r : ℕ) : Type 0 where
+  pub enough : n ≤ 64 * r
+  pub least : 64 * r < n + 64
+
+-- Of the n numbers from `base` on the first r are below `end`.
+pub record Span (end base n r : ℕ) : Type 0 where
+  pub most : r ≤ n
+  pub below : r ≤ end - base
+  pub past : (k : ℕ) → r ≤ k → k < n → end ≤ base + k
 
 -- n bits make a number below 2 to the n.
 pub bits-below : (f : ℕ → Bool) (n : ℕ) → bits f n < 2 ^ n
@@ -89,3 +100,38 @@ gather-end {f} {n} {b} {word} g h =
     let q : b ≡ 0 = omega arith in
     let v : bits f 0 + 2 ^ 0 * word ≡ bits f n = subst (λ (x : ℕ). bits f x + 2 ^ x * word ≡ bits f n) q (g .value) in
     omega arith
+
+-- Bits that are not set add nothing.
+pub bits-past : (f : ℕ → Bool) (r n : ℕ) → r ≤ n → ((k : ℕ) → r ≤ k → k < n → f k ≡ false) → bits f r ≡ bits f n
+unfolding bits
+bits-past f r zero l e = let q : r ≡ 0 = omega arith in rw q
+bits-past f r (suc n) l e = go (ltb n r) refl (λ h. bits-past f r n h (λ k p q. e k p (omega arith)))
+  where
+    go : (t : Bool) → ltb n r ≡ t → (r ≤ n → bits f r ≡ bits f n) → bits f r ≡ bits f n + (if f n then 2 ^ n else 0)
+    go true t h = let q : r ≡ suc n = omega (arith, ltb-true n r t) in rw q
+    go false t h = let q : r ≤ n = ltb-false n r t in rw (e n q (omega arith)) (omega (arith, h q))
+
+-- The bits below a span's end have made the word of them all.
+pub span-end
+    : {f : ℕ → Bool} {end base n r b word : ℕ}
+    → Span end base n r
+    → ((k : ℕ) → end ≤ base + k → f k ≡ false)
+    → Gathering f r b word
+    → b ≤ 0
+    → word ≡ bits f n
+span-end {f} {end} {base} {n} {r} p e g h = gather-end g h ∙ bits-past f r n (p .most) (λ k l m. e k (p .past k l m))
+
+-- The word of the records, or cells, in use.
+pub in-use
+    : (n : ℕ) (g : ℕ → ℕ) (w : ℕ) {r b word : ℕ}
+    → Span n (64 * w) 64 r
+    → Gathering (λ k. usedBit n g (64 * w + k)) r b word
+    → b ≤ 0
+    → word ≡ inUse n g w 64
+unfolding inUse
+in-use n g w p c h = span-end p (λ k l. bit-past g l) c h
+
+-- A word past the last one is 0.
+pub unused : {n w r : ℕ} (g : ℕ → ℕ) → WordsFor n r → r ≤ w → inUse n g w 64 ≡ 0
+unfolding inUse bits
+unused {n} {w} {r} g f l = sym (bits-past (λ k. usedBit n g (64 * w + k)) 0 64 (omega arith) (λ k p q. bit-past {k = 64 * w + k} g (omega (arith, f .enough))))

@@ -2,3 +2,4 @@
 pub mod Gather
 pub mod Compare
 pub mod Words
+pub mod Full

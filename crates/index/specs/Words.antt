@@ -4,18 +4,16 @@ use mathlib.Core.Bool.{Bool, true, false, not}
 use mathlib.Core.List.{List}
 use Prim.Native.Nat.{ℕ, _+_, _*_, _≤_}
 use native.Mathlib.Nat.{zero-add}
-use borrow.Author.Tests.{le-ltb}
+use native.Mathlib.Omega.{arith}
 use lib.ListN.{length}
 use Rattle.layout.specs.Table.{slot, count}
 use Rattle.layout.specs.Place.{Inside}
-use Rattle.layout.specs.Memory.{cell}
 use Rattle.state.specs.Fields as fields
 use Rattle.state.specs.Fields.{layout1, counts}
 use Rattle.state.specs.Places.{sizesIn, totalIn, cellIn}
 use Rattle.state.specs.WellFormed.{bits, inUse, isFull, Index}
 use Rattle.state.specs.declared.Sizes.{Sizes}
 use Rattle.rules.specs.Code.{memIn, Whole}
-use Rattle.index.specs.Gather.{Gathering, gather-end, usedBit}
 use Rattle.index.specs.Compare.{Compared, compared-in, compared-out}
 
 -- The word of records, or cells, in use, and the word of full words that starts at word `base` of region r.
@@ -31,34 +29,24 @@ fullBit z s r base b = isFull (cellIn z s (slot r 0 8) (base + b))
 abbrev pub fullWord : Sizes → List ℕ → ℕ → ℕ → ℕ → ℕ
 fullWord z s r base n = bits (fullBit z s r base) n
 
--- What the code asks of a region of words of n records.
+-- What the code asks of a region of n words.
 pub record WordsAsk (z : Sizes) (s : List ℕ) (r n : ℕ) : Type 0 where
   pub inside : Inside layout1 (slot r 0 8)
   pub records : count layout1 (counts (sizesIn z)) r ≡ n
   pub long : totalIn z ≤ length s
 
-pub record FullAsks (z : Sizes) (s : List ℕ) (r n base bits : ℕ) : Type 0 where
-  pub region : WordsAsk z s r n
-  pub small : (bits ≤ 64) × (base ≤ 65000)
+-- The loops over words.
+abbrev pub Zeros : Sizes → List ℕ → ℕ → ℕ → ℕ → Bool → Type 0
+Zeros z s r a n t = Compared (cellIn z s (slot r 0 8)) (λ w. 0) a n t
 
--- A word past the region's end is not full.
-pub full-past : {z : Sizes} {s : List ℕ} {r n i : ℕ} → WordsAsk z s r n → n ≤ i → false ≡ isFull (cellIn z s (slot r 0 8) i)
-unfolding cell
-full-past {z} {s} {r} {n} {i} a h = rw (a .records, le-ltb i n h)
-
--- The three loops over words.
 abbrev pub RecordWords : Sizes → List ℕ → Bool → Type 0
-RecordWords z s t = Compared (memIn z s fields.usedRecords) (recordWord z s) 64 t
+RecordWords z s t = Compared (memIn z s fields.usedRecords) (recordWord z s) 0 64 t
 
 abbrev pub CellWords : Sizes → List ℕ → Bool → Type 0
-CellWords z s t = Compared (memIn z s fields.usedCells) (cellWord z s) 1016 t
+CellWords z s t = Compared (memIn z s fields.usedCells) (cellWord z s) 0 1016 t
 
 abbrev pub FullWords : Sizes → List ℕ → Bool → Type 0
-FullWords z s t = Compared (memIn z s fields.fullCellWords) (λ v. fullWord z s 10 (64 * v) 64) 16 t
-
-pub in-use : (n : ℕ) (g : ℕ → ℕ) (w : ℕ) {b word : ℕ} → Gathering (λ k. usedBit n g (64 * w + k)) 64 b word → b ≤ 0 → word ≡ inUse n g w 64
-unfolding inUse
-in-use n g w c h = gather-end c h
+FullWords z s t = Compared (memIn z s fields.fullCellWords) (λ v. fullWord z s 10 (64 * v) 64) 0 16 t
 
 abbrev pub IndexIn : Sizes → List ℕ → Type 0
 IndexIn z s = Index (sizesIn z) (memIn z s)
@@ -69,13 +57,13 @@ from-0 z s r n = ap (λ (f : ℕ → Bool). bits f n) (fun-ext (λ b. ap (λ (i 
 
 -- Each way out.
 pub index-records : {z : Sizes} {s : List ℕ} {t : Bool} → Whole z s → RecordWords z s t → not t ≡ true → IndexIn z s → ⊥
-index-records w h e x = compared-out h e (x .records)
+index-records w h e x = compared-out h e (λ k l m. x .records k l)
 
 pub index-cells : {z : Sizes} {s : List ℕ} {t : Bool} → Whole z s → CellWords z s t → not t ≡ true → IndexIn z s → ⊥
-index-cells w h e x = compared-out h e (x .cells)
+index-cells w h e x = compared-out h e (λ k l m. x .cells k l)
 
 pub index-words : {z : Sizes} {s : List ℕ} {t : Bool} → Whole z s → FullWords z s t → not t ≡ true → IndexIn z s → ⊥
-index-words w h e x = compared-out h e (x .fullCellWords)
+index-words w h e x = compared-out h e (λ k l m. x .fullCellWords k l)
 
 pub index-full-records
     : {z : Sizes} {s : List ℕ} {v x : ℕ}
@@ -115,9 +103,9 @@ pub index-yes
     → IndexIn z s
 index-yes {z} {s} w h₁ e₁ h₂ e₂ h₃ e₃ a b e c d f =
     record {
-      records = compared-in h₁ e₁;
+      records = λ k l. compared-in h₁ e₁ .answer k l (omega arith);
       fullRecords = sym a ∙ e ∙ b ∙ from-0 z s 9 64;
-      cells = compared-in h₂ e₂;
-      fullCellWords = compared-in h₃ e₃;
+      cells = λ k l. compared-in h₂ e₂ .answer k l (omega arith);
+      fullCellWords = λ k l. compared-in h₃ e₃ .answer k l (omega arith);
       fullCells = sym c ∙ f ∙ d ∙ from-0 z s 11 16;
     }

@@ -66,10 +66,10 @@ numbers-back (x ∷ xs) h =
     ∙ numbers-back xs (h .1))
 
 -- The numbers behind a kind and a context byte.
-fields-back : (k c : ℕ) (xs : List ℕ) → AllBelow (2 ^ 64) xs → numbersAt (length xs) (k ∷ c ∷ concatMap (bytesOf 8) xs) 2 ≡ xs
+pub fields-back : (k c : ℕ) (xs : List ℕ) → AllBelow (2 ^ 64) xs → numbersAt (length xs) (k ∷ c ∷ concatMap (bytesOf 8) xs) 2 ≡ xs
 fields-back k c xs h = numbers-skip (length xs) (k ∷ c ∷ []) (concatMap (bytesOf 8) xs) 0 ∙ numbers-back xs h
 
-length-fields : (xs : List ℕ) → length (concatMap (bytesOf 8) xs) ≡ 8 * length xs
+pub length-fields : (xs : List ℕ) → length (concatMap (bytesOf 8) xs) ≡ 8 * length xs
 unfolding concatMap
 length-fields [] = refl
 length-fields (x ∷ xs) = length-append (bytesOf 8 x) (concatMap (bytesOf 8) xs) ∙ omega (arith, length-bytes 8 x, length-fields xs)
@@ -83,7 +83,7 @@ unfolding decodeForm
 numbers-form k c xs f b h e =
     rw (eq-eqb (suc (suc (length (concatMap (bytesOf 8) xs)))) (2 + 8 * length xs) (omega (arith, length-fields xs)), fields-back k c xs h) e
 
-bytes-form : (k c : ℕ) (bs : List ℕ) (f : List ℕ → Body)
+pub bytes-form : (k c : ℕ) (bs : List ℕ) (f : List ℕ → Body)
     → length bs < 2 ^ 32
     → decodeForm (takesBytes f) (k ∷ c ∷ (bytesOf 4 (length bs) ++ bs)) ≡ some (f bs)
 unfolding decodeForm

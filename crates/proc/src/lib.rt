@@ -18,20 +18,20 @@ const SHORTEST: usize = 127;
 const SECOND: u64 = 1_000_000_000;
 
 // newproc and ready.
-fn start(s: &mut [u8], z: Sizes, marked: bool, how: u64) -> Reply
+fn start(s: &mut [u8], z: Sizes, in_interrupt: bool, how: u64) -> Reply
     requires { ⌜ Well z (now s) ⌝ }
-    ensures { λ a. ⌜ Plain z (now (s .entry)) (now (s .exit)) marked (start how) a ⌝ }
+    ensures { λ a. ⌜ Plain z (now (s .entry)) (now (s .exit)) in_interrupt (start how) a ⌝ }
 {
     if how > 2 {
         return Reply::Refused { number: 2 };
     }
-    proc_start::start(s, z, marked, how as u8)
+    proc_start::start(s, z, in_interrupt, how as u8)
 }
 
 // fork(2).
-fn rfork(s: &mut [u8], z: Sizes, marked: bool, flags: u64, how: u64) -> Reply
+fn rfork(s: &mut [u8], z: Sizes, in_interrupt: bool, flags: u64, how: u64) -> Reply
     requires { ⌜ Well z (now s) ⌝ }
-    ensures { λ a. ⌜ Plain z (now (s .entry)) (now (s .exit)) marked (rfork flags how) a ⌝ }
+    ensures { λ a. ⌜ Plain z (now (s .entry)) (now (s .exit)) in_interrupt (rfork flags how) a ⌝ }
 {
     if flags > 4_294_967_295 {
         return Reply::Refused { number: 2 };
@@ -39,24 +39,24 @@ fn rfork(s: &mut [u8], z: Sizes, marked: bool, flags: u64, how: u64) -> Reply
     if how > 3 {
         return Reply::Refused { number: 2 };
     }
-    proc_fork::rfork(s, z, marked, flags as u32, how as u8)
+    proc_fork::rfork(s, z, in_interrupt, flags as u32, how as u8)
 }
 
 // The running process gets a name.
-fn name(s: &mut [u8], z: Sizes, marked: bool, bytes: &[u8]) -> Reply
+fn name(s: &mut [u8], z: Sizes, in_interrupt: bool, bytes: &[u8]) -> Reply
     requires { ⌜ Well z (now s) ⌝ }
-    ensures { λ a. ⌜ Plain z (now (s .entry)) (now (s .exit)) marked (name (now (bytes .entry))) a ⌝ }
+    ensures { λ a. ⌜ Plain z (now (s .entry)) (now (s .exit)) in_interrupt (name (now (bytes .entry))) a ⌝ }
 {
     if bytes.len() > 28 {
         return Reply::Refused { number: 2 };
     }
-    proc_fork::name(s, z, marked, bytes)
+    proc_fork::name(s, z, in_interrupt, bytes)
 }
 
 // The running process sleeps on a Rendez while a condition is false.
-fn sleep(s: &mut [u8], z: Sizes, marked: bool, rendez: u64, condition: u64) -> Reply
+fn sleep(s: &mut [u8], z: Sizes, in_interrupt: bool, rendez: u64, condition: u64) -> Reply
     requires { ⌜ Well z (now s) ⌝ }
-    ensures { λ a. ⌜ Plain z (now (s .entry)) (now (s .exit)) marked (sleep rendez condition) a ⌝ }
+    ensures { λ a. ⌜ Plain z (now (s .entry)) (now (s .exit)) in_interrupt (sleep rendez condition) a ⌝ }
 {
     if rendez >= z.rendez as u64 {
         return Reply::Refused { number: 2 };
@@ -64,14 +64,14 @@ fn sleep(s: &mut [u8], z: Sizes, marked: bool, rendez: u64, condition: u64) -> R
     if condition > 255 {
         return Reply::Refused { number: 2 };
     }
-    proc_sleep::sleep(s, z, marked, rendez as Index, condition as u8)
+    proc_sleep::sleep(s, z, in_interrupt, rendez as Index, condition as u8)
 }
 
 // The same, and no longer than a duration.
 fn tsleep(
     s: &mut [u8],
     z: Sizes,
-    marked: bool,
+    in_interrupt: bool,
     rendez: u64,
     condition: u64,
     seconds: u64,
@@ -79,7 +79,7 @@ fn tsleep(
     reading: u64,
 ) -> Reply
     requires { ⌜ Well z (now s) ⌝ }
-    ensures { λ a. ⌜ Plain z (now (s .entry)) (now (s .exit)) marked (tsleep rendez condition seconds nanoseconds reading) a ⌝ }
+    ensures { λ a. ⌜ Plain z (now (s .entry)) (now (s .exit)) in_interrupt (tsleep rendez condition seconds nanoseconds reading) a ⌝ }
 {
     if rendez >= z.rendez as u64 {
         return Reply::Refused { number: 2 };
@@ -97,7 +97,7 @@ fn tsleep(
     proc_timer::tsleep(
         s,
         z,
-        marked,
+        in_interrupt,
         rendez as Index,
         condition as u8,
         wait,
@@ -106,9 +106,9 @@ fn tsleep(
 }
 
 // Wakes whoever sleeps on a Rendez.
-fn wakeup(s: &mut [u8], z: Sizes, marked: bool, rendez: u64) -> Reply
+fn wakeup(s: &mut [u8], z: Sizes, in_interrupt: bool, rendez: u64) -> Reply
     requires { ⌜ Well z (now s) ⌝ }
-    ensures { λ a. ⌜ Plain z (now (s .entry)) (now (s .exit)) marked (wakeup rendez) a ⌝ }
+    ensures { λ a. ⌜ Plain z (now (s .entry)) (now (s .exit)) in_interrupt (wakeup rendez) a ⌝ }
 {
     if rendez >= z.rendez as u64 {
         return Reply::Refused { number: 2 };
@@ -117,20 +117,20 @@ fn wakeup(s: &mut [u8], z: Sizes, marked: bool, rendez: u64) -> Reply
 }
 
 // Takes a lock, or queues the running process for it.
-fn qlock(s: &mut [u8], z: Sizes, marked: bool, lock: u64) -> Reply
+fn qlock(s: &mut [u8], z: Sizes, in_interrupt: bool, lock: u64) -> Reply
     requires { ⌜ Well z (now s) ⌝ }
-    ensures { λ a. ⌜ Plain z (now (s .entry)) (now (s .exit)) marked (qlock lock) a ⌝ }
+    ensures { λ a. ⌜ Plain z (now (s .entry)) (now (s .exit)) in_interrupt (qlock lock) a ⌝ }
 {
     if lock >= z.locks as u64 {
         return Reply::Refused { number: 2 };
     }
-    proc_sleep::qlock(s, z, marked, lock as Index)
+    proc_sleep::qlock(s, z, in_interrupt, lock as Index)
 }
 
 // Takes a lock where it is free.
-fn canqlock(s: &mut [u8], z: Sizes, marked: bool, lock: u64) -> Reply
+fn canqlock(s: &mut [u8], z: Sizes, in_interrupt: bool, lock: u64) -> Reply
     requires { ⌜ Well z (now s) ⌝ }
-    ensures { λ a. ⌜ Plain z (now (s .entry)) (now (s .exit)) marked (canqlock lock) a ⌝ }
+    ensures { λ a. ⌜ Plain z (now (s .entry)) (now (s .exit)) in_interrupt (canqlock lock) a ⌝ }
 {
     if lock >= z.locks as u64 {
         return Reply::Refused { number: 2 };
@@ -139,9 +139,9 @@ fn canqlock(s: &mut [u8], z: Sizes, marked: bool, lock: u64) -> Reply
 }
 
 // Hands a lock over to its first waiter, or frees it.
-fn qunlock(s: &mut [u8], z: Sizes, marked: bool, lock: u64) -> Reply
+fn qunlock(s: &mut [u8], z: Sizes, in_interrupt: bool, lock: u64) -> Reply
     requires { ⌜ Well z (now s) ⌝ }
-    ensures { λ a. ⌜ Plain z (now (s .entry)) (now (s .exit)) marked (qunlock lock) a ⌝ }
+    ensures { λ a. ⌜ Plain z (now (s .entry)) (now (s .exit)) in_interrupt (qunlock lock) a ⌝ }
 {
     if lock >= z.locks as u64 {
         return Reply::Refused { number: 2 };
@@ -150,9 +150,9 @@ fn qunlock(s: &mut [u8], z: Sizes, marked: bool, lock: u64) -> Reply
 }
 
 // Sets a condition.
-fn cond(s: &mut [u8], z: Sizes, marked: bool, condition: u64, value: u64) -> Reply
+fn cond(s: &mut [u8], z: Sizes, in_interrupt: bool, condition: u64, value: u64) -> Reply
     requires { ⌜ Well z (now s) ⌝ }
-    ensures { λ a. ⌜ Plain z (now (s .entry)) (now (s .exit)) marked (cond condition value) a ⌝ }
+    ensures { λ a. ⌜ Plain z (now (s .entry)) (now (s .exit)) in_interrupt (cond condition value) a ⌝ }
 {
     if condition > 255 {
         return Reply::Refused { number: 2 };
@@ -167,7 +167,7 @@ fn cond(s: &mut [u8], z: Sizes, marked: bool, condition: u64, value: u64) -> Rep
 fn tadd(
     s: &mut [u8],
     z: Sizes,
-    marked: bool,
+    in_interrupt: bool,
     timer: u64,
     kind: u64,
     seconds: u64,
@@ -176,7 +176,7 @@ fn tadd(
     reading: u64,
 ) -> Reply
     requires { ⌜ Well z (now s) ⌝ }
-    ensures { λ a. ⌜ Plain z (now (s .entry)) (now (s .exit)) marked (tadd timer kind seconds nanoseconds rendez reading) a ⌝ }
+    ensures { λ a. ⌜ Plain z (now (s .entry)) (now (s .exit)) in_interrupt (tadd timer kind seconds nanoseconds rendez reading) a ⌝ }
 {
     if timer < 1 {
         return Reply::Refused { number: 2 };
@@ -209,9 +209,9 @@ fn tadd(
 }
 
 // Takes a kernel timer off the queue.
-fn tdel(s: &mut [u8], z: Sizes, marked: bool, timer: u64) -> Reply
+fn tdel(s: &mut [u8], z: Sizes, in_interrupt: bool, timer: u64) -> Reply
     requires { ⌜ Well z (now s) ⌝ }
-    ensures { λ a. ⌜ Plain z (now (s .entry)) (now (s .exit)) marked (tdel timer) a ⌝ }
+    ensures { λ a. ⌜ Plain z (now (s .entry)) (now (s .exit)) in_interrupt (tdel timer) a ⌝ }
 {
     if timer < 1 {
         return Reply::Refused { number: 2 };
@@ -223,25 +223,25 @@ fn tdel(s: &mut [u8], z: Sizes, marked: bool, timer: u64) -> Reply
 }
 
 // What the step bytes `b` were found to ask.
-fn take_call(
+pub fn take_call(
     s: &mut [u8],
     z: Sizes,
-    marked: bool,
+    in_interrupt: bool,
     call: Call,
     b: &[u8],
     message: &mut [u8],
 ) -> Reply
     requires { ⌜ CallAsks z (now s) call (now b) (now message) ⌝ }
-    ensures { λ a. ⌜ CallTook z (now (s .entry)) (now (s .exit)) marked call (now (b .entry)) (now (message .entry)) (now (message .exit)) a ⌝ }
+    ensures { λ a. ⌜ CallTook z (now (s .entry)) (now (s .exit)) in_interrupt call (now (b .entry)) (now (message .entry)) (now (message .exit)) a ⌝ }
 {
     match call {
         Call::None => Reply::Refused { number: 2 },
-        Call::Start { how } => start(s, z, marked, how),
-        Call::Rfork { flags, how } => rfork(s, z, marked, flags, how),
-        Call::Name { length: _ } => name(s, z, marked, &b[6..]),
-        Call::Sched => proc_sched::sched(s, z, marked, message),
-        Call::Yield => proc_sleep::yield_now(s, z, marked),
-        Call::Sleep { rendez, condition } => sleep(s, z, marked, rendez, condition),
+        Call::Start { how } => start(s, z, in_interrupt, how),
+        Call::Rfork { flags, how } => rfork(s, z, in_interrupt, flags, how),
+        Call::Name { length: _ } => name(s, z, in_interrupt, &b[6..]),
+        Call::Sched => proc_sched::sched(s, z, in_interrupt, message),
+        Call::Yield => proc_sleep::yield_now(s, z, in_interrupt),
+        Call::Sleep { rendez, condition } => sleep(s, z, in_interrupt, rendez, condition),
         Call::Tsleep {
             rendez,
             condition,
@@ -251,18 +251,18 @@ fn take_call(
         } => tsleep(
             s,
             z,
-            marked,
+            in_interrupt,
             rendez,
             condition,
             seconds,
             nanoseconds,
             reading,
         ),
-        Call::Wakeup { rendez } => wakeup(s, z, marked, rendez),
-        Call::Qlock { lock } => qlock(s, z, marked, lock),
-        Call::Canqlock { lock } => canqlock(s, z, marked, lock),
-        Call::Qunlock { lock } => qunlock(s, z, marked, lock),
-        Call::Cond { condition, value } => cond(s, z, marked, condition, value),
+        Call::Wakeup { rendez } => wakeup(s, z, in_interrupt, rendez),
+        Call::Qlock { lock } => qlock(s, z, in_interrupt, lock),
+        Call::Canqlock { lock } => canqlock(s, z, in_interrupt, lock),
+        Call::Qunlock { lock } => qunlock(s, z, in_interrupt, lock),
+        Call::Cond { condition, value } => cond(s, z, in_interrupt, condition, value),
         Call::Clock { reading } => proc_timer::clock(s, z, reading),
         Call::Tadd {
             timer,
@@ -274,7 +274,7 @@ fn take_call(
         } => tadd(
             s,
             z,
-            marked,
+            in_interrupt,
             timer,
             kind,
             seconds,
@@ -282,11 +282,11 @@ fn take_call(
             rendez,
             reading,
         ),
-        Call::Tdel { timer } => tdel(s, z, marked, timer),
+        Call::Tdel { timer } => tdel(s, z, in_interrupt, timer),
         Call::Intr { reading } => proc_intr::intr(s, z, reading),
         Call::Due => proc_wake::due(s, z),
-        Call::Exit { length: _ } => proc_exit::exit(s, z, marked, &b[6..]),
-        Call::Wait => proc_wait::wait(s, z, marked, message),
+        Call::Exit { length: _ } => proc_exit::exit(s, z, in_interrupt, &b[6..]),
+        Call::Wait => proc_wait::wait(s, z, in_interrupt, message),
     }
 }
 
@@ -299,7 +299,7 @@ pub fn take(s: &mut [u8], z: Sizes, b: &[u8], message: &mut [u8]) -> Reply
         return Reply::Refused { number: 2 };
     }
     let step = decode::decode(b);
-    let marked = step.marked;
+    let in_interrupt = step.marked;
     let call = step.call;
-    take_call(s, z, marked, call, b, message)
+    take_call(s, z, in_interrupt, call, b, message)
 }

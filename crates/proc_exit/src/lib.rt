@@ -91,11 +91,11 @@ fn pexit(s: &mut [u8], z: Sizes, i: Index, status: &[u8]) -> Reply
 }
 
 // Exits with the status given.
-pub fn exit(s: &mut [u8], z: Sizes, marked: bool, status: &[u8]) -> Reply
+pub fn exit(s: &mut [u8], z: Sizes, in_interrupt: bool, status: &[u8]) -> Reply
     requires { ⌜ ExitAsks z (now s) ⌝ }
-    ensures { λ a. ⌜ Exited z (now (s .entry)) (now (s .exit)) marked (now (status .entry)) a ⌝ }
+    ensures { λ a. ⌜ Exited z (now (s .entry)) (now (s .exit)) in_interrupt (now (status .entry)) a ⌝ }
 {
-    if marked {
+    if in_interrupt {
         return Reply::Refused { number: 3 };
     }
     let up = state::get16(s, z, state::HEADER, state::UP, 0);

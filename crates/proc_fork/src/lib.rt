@@ -28,11 +28,11 @@ fn padded(bytes: &[u8]) -> [u8; 28]
 }
 
 // The running process has the name `bytes`.
-pub fn name(s: &mut [u8], z: Sizes, marked: bool, bytes: &[u8]) -> Reply
+pub fn name(s: &mut [u8], z: Sizes, in_interrupt: bool, bytes: &[u8]) -> Reply
     requires { ⌜ NameStepAsks z (now s) (now bytes) ⌝ }
-    ensures { λ a. ⌜ NameTook z (now (s .entry)) (now (s .exit)) marked (now (bytes .entry)) a ⌝ }
+    ensures { λ a. ⌜ NameTook z (now (s .entry)) (now (s .exit)) in_interrupt (now (bytes .entry)) a ⌝ }
 {
-    if marked {
+    if in_interrupt {
         return Reply::Refused { number: 3 };
     }
     let up = state::get16(s, z, state::HEADER, state::UP, 0);
@@ -155,7 +155,9 @@ fn make(s: &mut [u8], z: Sizes, flags: u32, how: u8, i: Index) -> Reply
     }
     if how != 0 {
         spend(s, z, how);
-        return Reply::Refused { number: 11 };
+        return Reply::Refused {
+            number: outcome::ENOVMEM,
+        };
     }
     let off = has(flags, RFNOWAIT);
     fork(s, z, i, off);
@@ -163,16 +165,18 @@ fn make(s: &mut [u8], z: Sizes, flags: u32, how: u8, i: Index) -> Reply
 }
 
 // With RFPROC the running process makes a process; without it, nothing changes.
-pub fn rfork(s: &mut [u8], z: Sizes, marked: bool, flags: u32, how: u8) -> Reply
+pub fn rfork(s: &mut [u8], z: Sizes, in_interrupt: bool, flags: u32, how: u8) -> Reply
     requires { ⌜ RforkAsks z (now s) how ⌝ }
-    ensures { λ a. ⌜ RforkTook z (now (s .entry)) (now (s .exit)) marked flags how a ⌝ }
+    ensures { λ a. ⌜ RforkTook z (now (s .entry)) (now (s .exit)) in_interrupt flags how a ⌝ }
 {
-    if marked {
+    if in_interrupt {
         return Reply::Refused { number: 3 };
     }
     let wrong = bad(flags);
     if wrong {
-        return Reply::Refused { number: 10 };
+        return Reply::Refused {
+            number: outcome::EBADARG,
+        };
     }
     let up = state::get16(s, z, state::HEADER, state::UP, 0);
     if up == 0 {

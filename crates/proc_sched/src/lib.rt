@@ -191,11 +191,11 @@ fn sched_first(s: &mut [u8], z: Sizes, i: Index, buffer: &mut [u8]) -> Reply
 }
 
 // One turn of the scheduler, while nobody runs.
-pub fn sched(s: &mut [u8], z: Sizes, marked: bool, buffer: &mut [u8]) -> Reply
+pub fn sched(s: &mut [u8], z: Sizes, in_interrupt: bool, buffer: &mut [u8]) -> Reply
     requires { ⌜ SchedAsks z (now s) (now buffer) ⌝ }
-    ensures { λ a. ⌜ SchedTook z (now (s .entry)) (now (s .exit)) marked (now (buffer .entry)) (now (buffer .exit)) a ⌝ }
+    ensures { λ a. ⌜ SchedTook z (now (s .entry)) (now (s .exit)) in_interrupt (now (buffer .entry)) (now (buffer .exit)) a ⌝ }
 {
-    if marked {
+    if in_interrupt {
         return Reply::Refused { number: 3 };
     }
     let up = state::get16(s, z, state::HEADER, state::UP, 0);

@@ -10,11 +10,11 @@ ghost use Rattle.proc_sleep.specs.Sleep.{OffAsks, FellAsleep, FalseAsks,
 ghost use Rattle.proc_sleep.specs.Qlock.{QueueAsks, Queued, QlockAsks, QlockTook};
 
 // The running process goes last in the run queue.
-pub fn yield_now(s: &mut [u8], z: Sizes, marked: bool) -> Reply
+pub fn yield_now(s: &mut [u8], z: Sizes, in_interrupt: bool) -> Reply
     requires { ⌜ Well z (now s) ⌝ }
-    ensures { λ a. ⌜ Yielded z (now (s .entry)) (now (s .exit)) marked a ⌝ }
+    ensures { λ a. ⌜ Yielded z (now (s .entry)) (now (s .exit)) in_interrupt a ⌝ }
 {
-    if marked {
+    if in_interrupt {
         return Reply::Refused { number: 3 };
     }
     let up = state::get16(s, z, state::HEADER, state::UP, 0);
@@ -63,11 +63,11 @@ fn sleep_false(s: &mut [u8], z: Sizes, r: Index, c: u8) -> Reply
 }
 
 // Sleeps on Rendez `r` until condition `c` holds.
-pub fn sleep(s: &mut [u8], z: Sizes, marked: bool, r: Index, c: u8) -> Reply
+pub fn sleep(s: &mut [u8], z: Sizes, in_interrupt: bool, r: Index, c: u8) -> Reply
     requires { ⌜ SleepStepAsks z (now s) r ⌝ }
-    ensures { λ a. ⌜ SleepTook z (now (s .entry)) (now (s .exit)) marked r c a ⌝ }
+    ensures { λ a. ⌜ SleepTook z (now (s .entry)) (now (s .exit)) in_interrupt r c a ⌝ }
 {
-    if marked {
+    if in_interrupt {
         return Reply::Refused { number: 3 };
     }
     let holds = clockwork::condition(s, z, c);
@@ -88,15 +88,15 @@ fn wait_for(s: &mut [u8], z: Sizes, i: Index, q: Index)
 }
 
 // Takes lock `q`, or waits for it.
-pub fn qlock(s: &mut [u8], z: Sizes, marked: bool, q: Index) -> Reply
+pub fn qlock(s: &mut [u8], z: Sizes, in_interrupt: bool, q: Index) -> Reply
     requires { ⌜ QlockAsks z (now s) q ⌝ }
-    ensures { λ a. ⌜ QlockTook z (now (s .entry)) (now (s .exit)) marked q a ⌝ }
+    ensures { λ a. ⌜ QlockTook z (now (s .entry)) (now (s .exit)) in_interrupt q a ⌝ }
 {
     let taken = qlock::canqlock(s, z, q);
     if taken {
         return Reply::Done;
     }
-    if marked {
+    if in_interrupt {
         return Reply::Refused { number: 3 };
     }
     let up = state::get16(s, z, state::HEADER, state::UP, 0);

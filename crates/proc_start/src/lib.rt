@@ -38,11 +38,11 @@ pub fn begin(s: &mut [u8], z: Sizes, p: Proc)
 }
 
 // Makes a process: `how` is 0 where it works.
-pub fn start(s: &mut [u8], z: Sizes, marked: bool, how: u8) -> Reply
+pub fn start(s: &mut [u8], z: Sizes, in_interrupt: bool, how: u8) -> Reply
     requires { ⌜ StartAsks z (now s) how ⌝ }
-    ensures { λ a. ⌜ Started z (now (s .entry)) (now (s .exit)) marked how a ⌝ }
+    ensures { λ a. ⌜ Started z (now (s .entry)) (now (s .exit)) in_interrupt how a ⌝ }
 {
-    if marked {
+    if in_interrupt {
         return Reply::Refused { number: 3 };
     }
     let link = free::find_record(s, z);
@@ -54,7 +54,9 @@ pub fn start(s: &mut [u8], z: Sizes, marked: bool, how: u8) -> Reply
         return Reply::Refused { number: 16 };
     }
     if how != 0 {
-        return Reply::Refused { number: 11 };
+        return Reply::Refused {
+            number: outcome::ENOVMEM,
+        };
     }
     let p = orphan();
     begin(s, z, p);

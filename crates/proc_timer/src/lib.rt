@@ -222,16 +222,16 @@ fn sleep_timed(
 pub fn tsleep(
     s: &mut [u8],
     z: Sizes,
-    marked: bool,
+    in_interrupt: bool,
     r: Index,
     c: u8,
     d: Duration,
     reading: u64,
 ) -> Reply
     requires { ⌜ TsleepAsks z (now s) r d ⌝ }
-    ensures { λ a. ⌜ Tslept z (now (s .entry)) (now (s .exit)) marked r c d reading a ⌝ }
+    ensures { λ a. ⌜ Tslept z (now (s .entry)) (now (s .exit)) in_interrupt r c d reading a ⌝ }
 {
-    if marked {
+    if in_interrupt {
         return Reply::Refused { number: 3 };
     }
     let up = state::get16(s, z, state::HEADER, state::UP, 0);

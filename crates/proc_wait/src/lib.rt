@@ -59,8 +59,12 @@ fn pwait(s: &mut [u8], z: Sizes, i: Index, buffer: &mut [u8]) -> Reply
 {
     let w = waitq::wait_state(s, z, i);
     match w {
-        WaitState::InUse => Reply::Refused { number: 14 },
-        WaitState::NoChild => Reply::Refused { number: 15 },
+        WaitState::InUse => Reply::Refused {
+            number: outcome::EINUSE,
+        },
+        WaitState::NoChild => Reply::Refused {
+            number: outcome::ENOCHILD,
+        },
         WaitState::Take => {
             let child = take_child(s, z, i, buffer);
             Reply::Child {
@@ -76,11 +80,11 @@ fn pwait(s: &mut [u8], z: Sizes, i: Index, buffer: &mut [u8]) -> Reply
 }
 
 // Waits for any child to exit.
-pub fn wait(s: &mut [u8], z: Sizes, marked: bool, buffer: &mut [u8]) -> Reply
+pub fn wait(s: &mut [u8], z: Sizes, in_interrupt: bool, buffer: &mut [u8]) -> Reply
     requires { ⌜ WaitStepAsks z (now s) (now buffer) ⌝ }
-    ensures { λ a. ⌜ WaitTook z (now (s .entry)) (now (s .exit)) marked (now (buffer .entry)) (now (buffer .exit)) a ⌝ }
+    ensures { λ a. ⌜ WaitTook z (now (s .entry)) (now (s .exit)) in_interrupt (now (buffer .entry)) (now (buffer .exit)) a ⌝ }
 {
-    if marked {
+    if in_interrupt {
         return Reply::Refused { number: 3 };
     }
     let up = state::get16(s, z, state::HEADER, state::UP, 0);

@@ -148,9 +148,10 @@ pub never-one
 never-one s [] ys s′ f (e, d) = subst (Each (λ (y : Back). y .number ≡ 1 → ⊥)) (sym e) tt
 never-one s (x ∷ xs) [] s′ f c = absurd c
 never-one s (x ∷ xs) (y ∷ ys) s′ f (e, c) =
-    let a = step-formed f e in
-    (λ q. never-1 (abs s) (decode (x .bytes)) (length (x .message)) (number-1 _ (sym (a .number) ∙ q)),
-    never-one (y .state) xs ys s′ (a .state .wellFormed) c)
+    let a = step-formed f e in (
+      λ q. never-1 (abs s) (decode (x .bytes)) (length (x .message)) (number-1 _ (sym (a .number) ∙ q)),
+      never-one (y .state) xs ys s′ (a .state .wellFormed) c,
+    )
 
 -- Demand 3 and more, of a course from what `make` wrote: the answers are those of the history, number 1 never comes, and the lent state holds each living process in the place that the history tells. The claim about the list is
 -- `Demand3`, whose parts speak of every list, so of every point of this one.

@@ -3,16 +3,20 @@ use Prim.Native.Nat.{_-_, _*_}
 use borrow.Author.Needs.{needs}
 use Rattle.index.specs.Compare.{Comparing, compare-start, compare-more, compare-no, compare-yes}
 use Rattle.index.specs.Words.{fullWord}
+use Rattle.index.specs.Full.{full-cells}
 use Rattle.rules.specs.Code.{memIn}
 use Rattle.state.specs.Fields.{fullCellWords}
 use Rattle.index.proofs.full_words_ok.Statement.{statement}
 use Rattle.index.proofs.full_words_ok.Tie as tie
 
 abbrev Inv-loop : tie.InvT-loop
-Inv-loop s z w₀ w = Comparing (memIn z s fullCellWords) (λ v. fullWord z s 10 (64 * v) 64) 16 w
+Inv-loop s z n w₀ w = Comparing (memIn z s fullCellWords) (λ v. fullWord z s 10 (64 * v) 64) 0 w
 
 abbrev μ-loop : tie.MeasureT-loop
-μ-loop s z w₀ w = 16 - w
+μ-loop s z n w₀ w = 16 - w
+
+words-for-requires : tie.Need-words-for-requires Inv-loop μ-loop
+words-for-requires c κs = search needs
 
 loop-holds : tie.Need-loop-holds Inv-loop μ-loop
 loop-holds c = search compare-start
@@ -24,7 +28,7 @@ mul-full-word : tie.Need-mul-full-word Inv-loop μ-loop
 mul-full-word c = search needs
 
 full-word-requires : tie.Need-full-word-requires Inv-loop μ-loop
-full-word-requires c κs = search needs
+full-word-requires c κs = search (full-cells, needs)
 
 returns : tie.Need-returns Inv-loop μ-loop
 returns c = search compare-no
@@ -47,6 +51,7 @@ full-words-ok-spec =
     (tie.spec
     Inv-loop
     μ-loop
+    words-for-requires
     loop-holds
     get64-requires
     mul-full-word

@@ -1,0 +1,66 @@
+//! What a list is to be like: its sizes, how long it is, and with what it
+//! opens.
+
+use crate::lent::layout_sizes;
+use crate::opening;
+use oracle::random::Random;
+use oracle::sizes::Sizes;
+use outside::layout::total;
+
+pub struct Plan {
+    pub sizes: Sizes,
+    pub opening: Vec<String>,
+    /// How many steps, with the opening.
+    pub count: u64,
+    /// Whether each step is taken by `step`, or most by `run` alone.
+    pub is_by_step: bool,
+}
+
+/// Of so many lists one is large.
+const LARGE_EVERY: u64 = 40;
+/// From so many bytes on a state is large, and checked as seldom as can be.
+const LARGE: usize = 300_000;
+/// From so many on its lists are shorter.
+const WIDE: usize = 60_000;
+
+impl Plan {
+    /// The plan of list number `index`.
+    pub fn of(index: u64, seed: u64) -> Plan {
+        let mut random = Random::new(seed);
+        let is_large = index % LARGE_EVERY == LARGE_EVERY / 2;
+        let sizes = if is_large { large(&mut random, index) } else { small(&mut random) };
+        let opening = opening::any(&mut random, &sizes);
+        let bytes = total(layout_sizes(&sizes));
+        let more = match bytes {
+            LARGE.. => 4_000,
+            WIDE.. => 700,
+            _ => 1_500,
+        };
+        let count = opening.len() as u64 + more;
+        Plan { sizes, opening, count, is_by_step: bytes < LARGE }
+    }
+}
+
+fn hz(random: &mut Random) -> u64 {
+    random.pick(&[1, 3, 1_000, 1_000_000, 1_000_000, 4_294_967_295])
+}
+
+fn small(random: &mut Random) -> Sizes {
+    let mut few = || random.weighted(&[(20, 1), (30, 2), (45, 16), (5, 4_096)]);
+    let (rendez, locks, timers) = (few(), few(), few());
+    let processes = random.weighted(&[(8, 1), (22, 2), (60, 16), (10, 300)]);
+    let cells = random.weighted(&[(20, 1), (20, 2), (60, 256)]);
+    Sizes { processes, rendez, locks, timers, cells, hz: hz(random) }
+}
+
+/// The largest of one of the sizes at least.
+fn large(random: &mut Random, index: u64) -> Sizes {
+    let mut few = || random.pick(&[1, 16, 4_096, 4_096]);
+    let (rendez, locks, timers) = (few(), few(), few());
+    let (processes, cells) = match index / LARGE_EVERY % 4 {
+        0 => (4_096, random.pick(&[1, 2, 256])),
+        1 => (random.pick(&[2, 16, 300]), 65_000),
+        _ => (4_096, 65_000),
+    };
+    Sizes { processes, rendez, locks, timers, cells, hz: hz(random) }
+}
