@@ -4,11 +4,14 @@
 #   2. on each fixed list in lists/ the definition computes the kept listing, and every answer and number arises in one of them;
 #   3. demand 3, as it is stated, does not hold of wrong machines;
 #   4. the operations on the lent state do in small scenarios what 01 says, interpreted and compiled;
-#   5. where the Rust is at hand (the folder R9_SRC, from the repository's top, by default ../shared/docs/src/port/src): the kept
+#   5. the program `steps` prints on each fixed list the kept listing (`replay`), and takes long lines, any bytes and any cut of its input;
+#   6. where the Rust is at hand (the folder R9_SRC, from the repository's top, by default ../shared/docs/src/port/src): the kept
 #      listings are what the Rust gives today, they hold every step with each number that it can meet, the definition and the
-#      Rust give the same on lists that are not kept, made here, and `exit_message`, as C callers have it, and the Rust the same messages;
-#   6. where cargo is installed: `size`, `make` and `check`, as C callers have them, on many states against an independent reading;
-#   7. every crate is proved from nothing, every must-fail edit is refused, and every program writes what it must (`rt ci`).
+#      Rust give the same on lists that are not kept, made here, `exit_message`, as C callers have it, and the Rust the same messages, and
+#      `step` and `run`, as C callers have them, and the Rust the same after every step of generated lists; damaged states are refused;
+#   7. where cargo is installed: `size`, `make` and `check`, as C callers have them, on many states against an independent reading, and
+#      the C and the Rust caller of docs/CALLERS.md;
+#   8. every crate is proved from nothing, every must-fail edit is refused, and every program writes what it must (`rt ci`).
 set -euo pipefail
 cd "$(dirname "$0")"
 fail() { echo "test.sh: $*" >&2; exit 1; }
@@ -41,6 +44,7 @@ definition/check.sh "${pairs[@]}"
 definition/arose.sh lists/*.listing
 definition/wrong.sh
 trials/run.sh
+lists/replay.sh
 
 if [ -d "$rust" ]; then
   (cd oracle && cargo build --quiet --release --offline) || fail "the oracle does not build"
@@ -50,18 +54,21 @@ if [ -d "$rust" ]; then
   library message
   (cd messages && cargo build --quiet --release --offline) || fail "the test of messages does not build"
   messages/target/release/messages
+  for crate in step run make verify; do library $crate; done
+  (cd differential && cargo build --quiet --release --offline) || fail "the differential test does not build"
+  differential/target/release/differential
 else
   echo "test.sh: no folder $rust: the runs against the Rust are left out, the fixed lists stand in"
 fi
 
 # the state's functions for C callers, and the program in outside/ that tries them
 if command -v cargo >/dev/null 2>&1; then
-  library make
-  library verify
+  for crate in step run make verify; do library $crate; done
   (cd outside && cargo build --quiet --release --offline) || fail "the outside test does not build"
   outside/target/release/outside
+  callers/run.sh
 else
-  echo "test.sh: cargo is not installed: the outside test of size, make and check is left out"
+  echo "test.sh: cargo is not installed: the outside test of size, make and check and the callers are left out"
 fi
 
 rt ci

@@ -26,8 +26,8 @@ use std::time::Instant;
 
 const USAGE: &str =
     "usage: differential [lists | damaged] [--steps N] [--seed S], or differential bench";
-const STEPS: u64 = 1_500_000;
-const CALLS: u64 = 400_000;
+const STEPS: u64 = 2_500_000;
+const CALLS: u64 = 2_000_000;
 const SEED: u64 = 1;
 /// From so many steps on every answer and number must come.
 const MANY: u64 = 300_000;

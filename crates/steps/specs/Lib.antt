@@ -1,0 +1,4 @@
+-- What the program's functions ask and ensure.
+pub mod Chunk
+pub mod Taking
+pub mod All
