@@ -61,7 +61,9 @@ else
   echo "test.sh: no folder $rust: the runs against the Rust are left out, the fixed lists stand in"
 fi
 
-# the state's functions for C callers, and the program in outside/ that tries them
+lists/pieces.sh
+
+# the functions for C callers, and the programs that try them
 if command -v cargo >/dev/null 2>&1; then
   for crate in step run make verify; do library $crate; done
   (cd outside && cargo build --quiet --release --offline) || fail "the outside test does not build"

@@ -16,7 +16,7 @@ use Rattle.print.specs.Put.{Put}
 use Rattle.machine.specs.Listing.{header}
 use Rattle.line.specs.Line.{lineMost}
 use Rattle.listing.specs.declared.Fed.{Fed}
-use Rattle.listing.specs.Feed.{FeedAsks, FedAll}
+use Rattle.listing.specs.Feed.{FeedAsks, FeedEnds}
 use Rattle.listing.specs.Finish.{FinishAsks, Finished}
 
 -- A well-formed state, an input that is not too long, and buffers.
@@ -56,7 +56,7 @@ list-feeds a p =
 
 pub list-finishes
     : {z : Sizes} {s s₁ input held held₁ b₁ m₁ out out₁ : List ℕ} {f f₁ : Fed}
-    → FedAll z input s held out f s₁ held₁ out₁ f₁
+    → FeedEnds z input s held out f s₁ held₁ out₁ f₁
     → length held₁ ≡ 4097
     → length b₁ ≡ 4128
     → length m₁ ≡ 127
