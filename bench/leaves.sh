@@ -22,7 +22,11 @@ rm -rf "$work"
 mkdir -p "$work/crates/leaves/src" "$work/kit/$own/toolchain/bin"
 ln -s "$top"/crates/* "$work/crates/"
 cp "$top/crates.txt" "$work/crates.txt"
-echo "leaves: io libc $(sed -n 's/^\([a-z][a-z_]*\):.*/\1/p' "$top/crates.txt" | tr '\n' ' ')" >>"$work/crates.txt"
+libraries=()
+for crate in $(sed -n 's/^\([a-z][a-z_]*\):.*/\1/p' "$top/crates.txt"); do
+  if [ -f "$top/crates/$crate/src/lib.rt" ]; then libraries+=("$crate"); fi
+done
+echo "leaves: io libc ${libraries[*]}" >>"$work/crates.txt"
 for file in "$top"/bench/*.rt.txt; do cp "$file" "$work/crates/leaves/src/$(basename "$file" .txt)"; done
 
 # the toolchain by links, but for a compiler that keeps what it made at -O3

@@ -19,7 +19,11 @@ rm -rf "$work"
 mkdir -p "$program/src"
 ln -s "$crates"/* "$work/crates/"
 cp "$top/crates.txt" "$work/crates.txt"
-echo "leaves: io libc $(sed -n 's/^\([a-z][a-z_]*\):.*/\1/p' "$top/crates.txt" | tr '\n' ' ')" >>"$work/crates.txt"
+libraries=()
+for crate in $(sed -n 's/^\([a-z][a-z_]*\):.*/\1/p' "$top/crates.txt"); do
+  if [ -f "$crates/$crate/src/lib.rt" ]; then libraries+=("$crate"); fi
+done
+echo "leaves: io libc ${libraries[*]}" >>"$work/crates.txt"
 for file in "$top"/trials/leaves/*.rt.txt; do cp "$file" "$program/src/$(basename "$file" .txt)"; done
 cd "$work"
 rt fmt --check >out 2>&1 || { cat out >&2; fail "the program is not in the formatter's layout"; }
