@@ -45,8 +45,8 @@ uint64_t make(uint8_t *s, size_t s_length, uint64_t p, uint64_t r, uint64_t q, u
 bool check(const uint8_t *s, size_t s_length);
 
 /* Takes one step on the state s: b are the step's bytes. Returns the number of the refusal, and then nothing lent has changed (but
- * for the next pid at 11 on an rfork with M = 3), or the number of the answer, and then *first, *second and *length are its words. An
- * exit message is put at the front of message; no other byte of message is ever written. */
+ * for the next pid at 11 on an rfork with M = 3), or the number of the answer, and then *first, *second and *length are its words (three
+ * different ones, none of them NULL). An exit message is put at the front of message; no other byte of message is ever written. */
 uint64_t step(uint8_t *s, size_t s_length, const uint8_t *b, size_t b_length, uint8_t *message, size_t message_length, uint64_t *first,
               uint64_t *second, uint64_t *length);
 

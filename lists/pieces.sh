@@ -31,6 +31,10 @@ says "$work/long" '1;pid 1;0;1;0;0' '2;run 1;1;-;0;0' "3;exit 1 $(letters 4091);
 printf 'start 0\n\nstart 0' >"$work/open"
 says "$work/open" '1;pid 1;0;1;0;0' '2;refused 2;0;1;0;0' '3;pid 2;0;1,2;0;0'
 
+# what cannot be written is said
+$steps <lists/001-listing-example.steps >/dev/full 2>"$work/said"
+[ -s "$work/said" ] || fail "steps says nothing of a write that failed"
+
 if [ -x "$oracle" ]; then
   for seed in 1 2 3 4; do
     "$oracle" generate "$seed" 50000 >"$work/made"

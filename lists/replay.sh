@@ -16,3 +16,9 @@ done
 said=$(target/bin/replay "${words[@]}")
 echo "$said"
 [ "$said" = "replay: listings that agree: $((${#words[@]} / 3))" ] || fail "not every listing agrees"
+
+# a listing with one byte changed, in line 4, must be named
+mkdir -p target/replay
+sed '4s/run 1/run 2/' lists/001-listing-example.listing >target/replay/changed.listing
+said=$(target/bin/replay 16,16,16,16,256,1000000 lists/001-listing-example.steps target/replay/changed.listing)
+[ "$said" = "replay: lists/001-listing-example.steps: another listing, from line 4" ] || fail "a changed listing is not named: $said"

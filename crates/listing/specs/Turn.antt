@@ -28,6 +28,12 @@ pub record TurnAsks (z : Sizes) (s chunk held b m out : List ℕ) (f : Fed) : Ty
   pub more : f .from < length chunk
   pub room : f .used + lineMost z ≤ length out
 
+-- The line goes on to `end` and ends there.
+pub record EndedAsks (z : Sizes) (s chunk held b m out : List ℕ) (f : Fed) (end : ℕ) : Type 0 where
+  pub turn : TurnAsks z s chunk held b m out f
+  pub line : LineEnd chunk (f .from) end
+  pub inside : end < length chunk
+
 -- A turn reads a byte at least.
 pub record Turned (z : Sizes) (chunk s held out : List ℕ) (f : Fed) (s′ held′ out′ : List ℕ) (f′ : Fed) : Type 0 where
   pub went : Went z chunk s held out f s′ held′ out′ f′
@@ -43,7 +49,7 @@ pub turn-keep
     : {z : Sizes} {s chunk held b m out : List ℕ} {f : Fed} {end kept : ℕ} {held′ : List ℕ}
     → TurnAsks z s chunk held b m out f
     → LineEnd chunk (f .from) end
-    → end ≡ length chunk
+    → length chunk ≤ end
     → Kept held (f .have) (piece chunk (f .from) end) held′ kept
     → Turned z chunk s held out f s held′ out (record { from = end; have = kept; n = f .n; used = f .used })
 unfolding machineAfter printFrom
@@ -75,19 +81,17 @@ turn-keep {z} {s} {chunk} {held} {b} {m} {out} {f} {end} {kept} {held′} a l e 
 -- a line is taken, which is parsed as the line begun with the bytes up to its end
 turn-line
     : {z : Sizes} {s chunk held b m out : List ℕ} {f : Fed} {end : ℕ} {held′ s′ out′ : List ℕ} {x : Option Step} {used : ℕ}
-    → TurnAsks z s chunk held b m out f
-    → LineEnd chunk (f .from) end
-    → (end ≡ length chunk → ⊥)
+    → EndedAsks z s chunk held b m out f end
     → ((h : List ℕ) → HeldIs held (f .have) h → x ≡ parseLine (h ++ piece chunk (f .from) end))
     → LineTook z s s′ (f .n) x out (f .used) out′ used
     → Turned z chunk s held out f s′ held′ out′ (record { from = end + 1; have = 0; n = f .n + 1; used = used })
 unfolding machineAfter printFrom
-turn-line {z} {s} {chunk} {held} {b} {m} {out} {f} {end} {held′} {s′} {out′} {x} {used} a l e parsed t =
-    let inside : end < length chunk = omega (arith, l .before .high) in
+turn-line {z} {s} {chunk} {held} {b} {m} {out} {f} {end} {held′} {s′} {out′} {x} {used} a parsed t =
+    let l : LineEnd chunk (f .from) end = a .line in
     let p : List ℕ = piece chunk (f .from) end in
     let q : piece chunk (f .from) (end + 1) ≡ p ++ 10 ∷ [] =
     sym (piece-join chunk (f .from) end (end + 1) (l .before .low) (omega arith))
-    ∙ ap (λ (ys : List ℕ). p ++ ys) (piece-one chunk end inside ∙ ap (λ (c : ℕ). c ∷ []) (l .found inside))
+    ∙ ap (λ (ys : List ℕ). p ++ ys) (piece-one chunk end (a .inside) ∙ ap (λ (c : ℕ). c ∷ []) (l .found (a .inside)))
     in
     let o : Outcome = outcomeOf (machineIn z s) x 127 in
     record {
@@ -97,7 +101,7 @@ turn-line {z} {s} {chunk} {held} {b} {m} {out} {f} {end} {held′} {s′} {out�
             lines = printLine (f .n) (o .reply) (machineIn z s′);
             put = put-tight (t .put);
             on = omega (arith, l .before .low);
-            within = omega arith;
+            within = omega (arith, a .inside);
             few = omega arith;
             numbers = omega (arith, l .before .low);
             follows = λ h c.
@@ -124,14 +128,12 @@ turn-line {z} {s} {chunk} {held} {b} {m} {out} {f} {end} {held′} {s′} {out�
 -- A line that lies whole in the chunk.
 pub turn-whole
     : {z : Sizes} {s chunk held b m out : List ℕ} {f : Fed} {end : ℕ} {s′ out′ : List ℕ} {used : ℕ}
-    → TurnAsks z s chunk held b m out f
-    → LineEnd chunk (f .from) end
-    → (end ≡ length chunk → ⊥)
+    → EndedAsks z s chunk held b m out f end
     → f .have ≡ 0
     → LineTook z s s′ (f .n) (parseLine (piece chunk (f .from) end)) out (f .used) out′ used
     → Turned z chunk s held out f s′ held out′ (record { from = end + 1; have = 0; n = f .n + 1; used = used })
-turn-whole {z} {s} {chunk} {held} {b} {m} {out} {f} {end} a l e none t =
-    turn-line a l e
+turn-whole {z} {s} {chunk} {held} {b} {m} {out} {f} {end} a none t =
+    turn-line a
     (λ h c.
     let nothing : h ≡ [] = c .short (omega arith) ∙ ap (λ (k : ℕ). take k held) none in
     ap (λ (ys : List ℕ). parseLine (ys ++ piece chunk (f .from) end)) (sym nothing))
@@ -140,15 +142,13 @@ turn-whole {z} {s} {chunk} {held} {b} {m} {out} {f} {end} a l e none t =
 -- The end of a line begun before.
 pub turn-begun
     : {z : Sizes} {s chunk held b m out : List ℕ} {f : Fed} {end kept : ℕ} {held′ s′ out′ : List ℕ} {used : ℕ}
-    → TurnAsks z s chunk held b m out f
-    → LineEnd chunk (f .from) end
-    → (end ≡ length chunk → ⊥)
+    → EndedAsks z s chunk held b m out f end
     → Kept held (f .have) (piece chunk (f .from) end) held′ kept
     → LineTook z s s′ (f .n) (parseLine (take kept held′)) out (f .used) out′ used
     → Turned z chunk s held out f s′ held′ out′ (record { from = end + 1; have = 0; n = f .n + 1; used = used })
-turn-begun {z} {s} {chunk} {held} {b} {m} {out} {f} {end} {kept} {held′} a l e k t =
-    turn-line a l e
+turn-begun {z} {s} {chunk} {held} {b} {m} {out} {f} {end} {kept} {held′} a k t =
+    turn-line a
     (λ h c.
-    held-parse (k .long ∙ a .asks .line) (omega (arith, k .ends, a .asks .line))
-    (held-more (a .asks .line) (a .asks .few) c (l .before .none) k))
+    held-parse (k .long ∙ a .turn .asks .line) (omega (arith, k .ends, a .turn .asks .line))
+    (held-more (a .turn .asks .line) (a .turn .asks .few) c (a .line .before .none) k))
     t

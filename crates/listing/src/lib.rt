@@ -6,11 +6,22 @@ ghost use lib.ListN.{length};
 ghost use Rattle.listing.specs.Pieces.{piece, LineEnd};
 ghost use Rattle.listing.specs.Held.{KeepAsks, Kept};
 ghost use Rattle.listing.specs.Feed.{FeedAsks, FeedEnds};
-ghost use Rattle.listing.specs.Turn.{TurnAsks, Turned};
+ghost use Rattle.listing.specs.Turn.{EndedAsks, TurnAsks, Turned};
 ghost use Rattle.listing.specs.Finish.{FinishAsks, Finished};
 ghost use Rattle.listing.specs.Start.{stateSize, Started};
 ghost use Rattle.machine.specs.Listing.{header};
 ghost use Rattle.print.specs.Put.{Put};
+
+// How many bytes a state of the sizes of `steps` takes.
+pub const STATE_SIZE: usize = 47_824;
+
+// The room for the line begun: one byte more than the longest step has.
+pub const HELD_SIZE: usize = 4_097;
+
+// The room for the bytes of a step, and for a message.
+pub const STEP_SIZE: usize = 4_128;
+
+pub const MESSAGE_SIZE: usize = 127;
 
 // How far it has got: the place in the chunk, how many bytes of the line begun are held, the number of the next step, and how
 // many bytes of the buffer for the listing are used.
@@ -33,13 +44,14 @@ fn line_end(chunk: &[u8], from: usize) -> usize
     i
 }
 
+// The smaller one.
 fn least(a: usize, b: usize) -> usize
     ensures { λ r. ⌜ r ≡ min a b ⌝ }
 {
     if a < b { a } else { b }
 }
 
-// Keeps `chunk[from..to]` behind the `have` bytes of a line that are held, as far as there is room; how many are held then.
+// Keeps `chunk[from..to]` behind the first `have` bytes of `held`, as far as there is room; how many bytes are held then.
 fn keep(held: &mut [u8], have: usize, chunk: &[u8], from: usize, to: usize) -> usize
     requires { ⌜ KeepAsks (now held) have (now chunk) from to ⌝ }
     ensures { λ r. ⌜ Kept (now (held .entry)) have (piece (now (chunk .entry)) from to) (now (held .exit)) r ⌝ }
@@ -53,7 +65,45 @@ fn keep(held: &mut [u8], have: usize, chunk: &[u8], from: usize, to: usize) -> u
     have + n
 }
 
-// Takes the line that begins or goes on at `fed.from`, or keeps the rest of the chunk.
+// Takes the line that ends at `end`: in place, where none of it is held.
+fn take_ended(
+    s: &mut [u8],
+    z: Sizes,
+    chunk: &[u8],
+    held: &mut [u8],
+    b: &mut [u8],
+    message: &mut [u8],
+    out: &mut [u8],
+    fed: Fed,
+    end: usize,
+) -> Fed
+    requires { ⌜ EndedAsks z (now s) (now chunk) (now held) (now b) (now message) (now out) fed end ⌝ }
+    ensures { λ r. ⌜ Turned z (now (chunk .entry)) (now (s .entry)) (now (held .entry)) (now (out .entry)) fed (now (s .exit)) (now (held .exit)) (now (out .exit)) r ⌝ }
+{
+    let from = end + 1;
+    let n = fed.n + 1;
+    let begin = fed.from;
+    let have = fed.have;
+    if have == 0 {
+        let used = line::take_line(s, z, fed.n, &chunk[begin..end], b, message, out, fed.used);
+        return Fed {
+            from,
+            have: 0,
+            n,
+            used,
+        };
+    }
+    let kept = keep(held, have, chunk, begin, end);
+    let used = line::take_line(s, z, fed.n, &held[..kept], b, message, out, fed.used);
+    Fed {
+        from,
+        have: 0,
+        n,
+        used,
+    }
+}
+
+// Takes the line that begins or goes on at `fed.from`, or holds the rest of the chunk.
 fn turn(
     s: &mut [u8],
     z: Sizes,
@@ -68,39 +118,21 @@ fn turn(
     ensures { λ r. ⌜ Turned z (now (chunk .entry)) (now (s .entry)) (now (held .entry)) (now (out .entry)) fed (now (s .exit)) (now (held .exit)) (now (out .exit)) r ⌝ }
 {
     let from = fed.from;
-    let have = fed.have;
     let end = line_end(chunk, from);
-    if end == chunk.len() {
-        let kept = keep(held, have, chunk, from, end);
-        return Fed {
-            from: end,
-            have: kept,
-            n: fed.n,
-            used: fed.used,
-        };
+    if end < chunk.len() {
+        return take_ended(s, z, chunk, held, b, message, out, fed, end);
     }
-    let next = end + 1;
-    let n = fed.n + 1;
-    if have == 0 {
-        let used = line::take_line(s, z, fed.n, &chunk[from..end], b, message, out, fed.used);
-        return Fed {
-            from: next,
-            have: 0,
-            n,
-            used,
-        };
-    }
-    let kept = keep(held, have, chunk, from, end);
-    let used = line::take_line(s, z, fed.n, &held[..kept], b, message, out, fed.used);
+    let have = keep(held, fed.have, chunk, from, end);
     Fed {
-        from: next,
-        have: 0,
-        n,
-        used,
+        from: end,
+        have,
+        n: fed.n,
+        used: fed.used,
     }
 }
 
-// Takes lines from `chunk[fed.from..]` until the chunk is used up or `out` has no room for another.
+// Takes lines from `chunk[fed.from..]` until the chunk is used up or `out` has no room for another. A line that the chunk does not
+// end is held for the next one. `b` and `message` are room for work: what stands there then is free.
 pub fn feed(
     s: &mut [u8],
     z: Sizes,
@@ -152,9 +184,6 @@ pub fn begin(out: &mut [u8]) -> usize
 {
     keep(out, 0, b"step;answer;up;queue;asleep;ticks\n", 0, 34)
 }
-
-// How many bytes a state of the sizes of `steps` takes.
-pub const STATE_SIZE: usize = 47_824;
 
 // Makes a fresh state of the sizes of `steps` in the front of `s`.
 pub fn start(s: &mut [u8]) -> Sizes

@@ -9,7 +9,7 @@ use native.Mathlib.Omega.{arith}
 use lib.Dec.{eqb, ltb}
 use lib.ListN.{length}
 use Rattle.machine.specs.Basics.{if_then_else_, elem}
-use Rattle.machine.specs.Machine.{Machine, fresh}
+use Rattle.machine.specs.Machine.{Machine, fresh, asleep}
 use Rattle.machine.specs.Good.{Each}
 use Rattle.machine.specs.Table.{table, holds}
 use Rattle.machine.specs.Bytes.{decode}
@@ -22,7 +22,8 @@ use Rattle.kept.specs.Total.{numbers, Comes, total-outcome}
 use Rattle.history.specs.History.{Input, Event, gives, historyFrom, machineAfter}
 use Rattle.history.specs.Demand3.{Demand3, PlacesRead}
 use Rattle.history.specs.Proof.{demand3}
-use Rattle.state.specs.Abs.{abs}
+use Rattle.state.specs.Fields as fields
+use Rattle.state.specs.Abs.{memoryOf, abs}
 use Rattle.state.specs.WellFormed.{WellFormed}
 use Rattle.make.specs.Fresh.{sizesFor, makeAnswer, makeBytes}
 use Rattle.make.specs.Holds.{Made, make-made}
@@ -83,11 +84,24 @@ Course s (x ∷ xs) (y ∷ ys) s′ =
 abbrev pub inputOf : Handed → Input
 inputOf x = record { step = decode (x .bytes); buffer = length (x .message) }
 
--- A course from a well-formed state follows the definition: the numbers are those of its replies, and the bytes hold its machine.
+-- What came back of each step is what the history tells: the number, the words and the message buffer.
+abbrev pub Answers : List Handed → List Back → List Event → Type 0
+Answers [] [] [] = Unit {0}
+Answers [] [] (e ∷ es) = ⊥
+Answers [] (y ∷ ys) es = ⊥
+Answers (x ∷ xs) [] es = ⊥
+Answers (x ∷ xs) (y ∷ ys) [] = ⊥
+Answers (x ∷ xs) (y ∷ ys) (e ∷ es) =
+    (y .number ≡ numberOf (e .reply))
+    × (y .words ≡ wordsAfter (e .reply) (x .words))
+    × (y .message ≡ messageAfter (e .reply) (x .message))
+    × Answers xs ys es
+
+-- A course from a well-formed state follows the definition: its answers are the definition's, and the bytes hold its machine.
 pub record Follows (m : Machine) (xs : List Handed) (ys : List Back) (s′ : List ℕ) : Type 0 where
   pub wellFormed : WellFormed s′
   pub machine : abs s′ ≡ machineAfter m (map inputOf xs)
-  pub replies : map (λ (y : Back). y .number) ys ≡ map (λ (e : Event). numberOf (e .reply)) (historyFrom m (map inputOf xs))
+  pub answers : Answers xs ys (historyFrom m (map inputOf xs))
 
 step-formed
     : {s s′ b m m′ : List ℕ} {w w′ : Lent} {n : ℕ} → WellFormed s → Exported s s′ b m m′ w w′ n → Answered s s′ b m m′ w w′ n
@@ -99,7 +113,7 @@ follows s [] ys s′ f (e, d) =
     record {
       wellFormed = subst WellFormed (sym d) f;
       machine = ap abs d;
-      replies = ap (map (λ (y : Back). y .number)) e;
+      answers = subst (λ (z : List Back). Answers [] z []) (sym e) tt;
     }
 follows s (x ∷ xs) [] s′ f c = absurd c
 follows s (x ∷ xs) (y ∷ ys) s′ f (e, c) =
@@ -110,7 +124,7 @@ follows s (x ∷ xs) (y ∷ ys) s′ f (e, c) =
     record {
       wellFormed = h .wellFormed;
       machine = h .machine;
-      replies = λ j. a .number j ∷ h .replies j;
+      answers = (a .number, a .words, a .message, h .answers);
     }
 
 -- Number 1 is about bytes alone: no step meets it on a machine.
@@ -153,13 +167,20 @@ never-one s (x ∷ xs) (y ∷ ys) s′ f (e, c) =
       never-one (y .state) xs ys s′ (a .state .wellFormed) c,
     )
 
--- Demand 3 and more, of a course from what `make` wrote: the answers are those of the history, number 1 never comes, and the lent state holds each living process in the place that the history tells. The claim about the list is
+-- Demand 3 and more, of a course from what `make` wrote: the answers, with their
+-- words and messages, are those of the history, number 1 never comes, and the lent state holds each living process in the place that the history tells. The claim about the list is
 -- `Demand3`, whose parts speak of every list, so of every point of this one.
 pub record Demanded (p r q k c hz : ℕ) (xs : List Handed) (ys : List Back) (s′ : List ℕ) : Type 0 where
   pub follows : Follows (fresh (sizesFor p r q k c hz)) xs ys s′
   pub never1 : Each (λ (y : Back). y .number ≡ 1 → ⊥) ys
   pub places : PlacesRead (abs s′) (historyFrom (fresh (sizesFor p r q k c hz)) (map inputOf xs))
+  pub asleep : memoryOf s′ fields.asleepCount 0 ≡ asleep (abs s′)
   pub list : Demand3 (sizesFor p r q k c hz) (map inputOf xs)
+
+-- The count that the state keeps is the machine's.
+stored-asleep : {s : List ℕ} → WellFormed s → memoryOf s fields.asleepCount 0 ≡ asleep (abs s)
+unfolding abs
+stored-asleep f = f .rep .queues .asleep
 
 pub demanded
     : (p r q k c hz : ℕ) (s : List ℕ) (xs : List Handed) (ys : List Back) (s′ : List ℕ)
@@ -176,5 +197,6 @@ demanded p r q k c hz s xs ys s′ e course =
       places =
           subst (λ (m : Machine). PlacesRead m (historyFrom (fresh (sizesFor p r q k c hz)) (map inputOf xs))) (sym (f .machine))
           (d .places);
+      asleep = stored-asleep (f .wellFormed);
       list = d;
     }

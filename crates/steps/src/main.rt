@@ -6,7 +6,8 @@ use state::Sizes;
 ghost use Prim.Native.Nat.{_≤_};
 ghost use lib.ListN.{length};
 ghost use Rattle.steps.specs.Chunk.{Asks, ChunkAsks, ChunkTaken};
-ghost use Rattle.steps.specs.All.{LastTaken, SomeAsks, SomeTaken, AllAsks};
+ghost use Rattle.steps.specs.Some.{LastTaken, SomeAsks, SomeTaken};
+ghost use Rattle.steps.specs.All.{AllAsks};
 
 // What is left after a chunk: whether to go on, how many bytes of the line begun are held, and the number of the next step.
 struct Left {
@@ -99,7 +100,7 @@ fn take_some(
     left: Left,
 ) -> Left
     requires { ⌜ SomeAsks z (now s) (now input) (now held) (now b) (now message) (now out) left ⌝ }
-    ensures { λ r. ⌜ SomeTaken z (now (s .exit)) left r ⌝ }
+    ensures { λ r. ⌜ SomeTaken z (now (s .entry)) (now (held .entry)) left (now (s .exit)) (now (held .exit)) r ⌝ }
 {
     let got = libc::read(STDIN_FILENO, input);
     if got < 0 {
@@ -122,8 +123,10 @@ fn take_some(
     }
 }
 
-// Chunk after chunk. A loop has to end, and nothing says that the input does: it counts its turns, from a number that no run
-// uses up.
+// A loop has to end, and nothing says that the input does: it counts its turns, from a number that no run uses up.
+const TURNS: u64 = 140_737_488_355_328;
+
+// Chunk after chunk, to the end of the input.
 fn take_all(
     s: &mut [u8],
     z: Sizes,
@@ -135,7 +138,7 @@ fn take_all(
 )
     requires { ⌜ AllAsks z (now s) (now input) (now held) (now b) (now message) (now out) ⌝ }
 {
-    let mut turns: u64 = 140_737_488_355_328;
+    let mut turns = TURNS;
     let mut left = Left {
         more: true,
         have: 0,
@@ -150,9 +153,9 @@ fn take_all(
 fn main() {
     let mut s = [0u8; listing::STATE_SIZE];
     let mut input = io::large_buffer();
-    let mut held = [0u8; 4097];
-    let mut b = [0u8; 4128];
-    let mut message = [0u8; 127];
+    let mut held = [0u8; listing::HELD_SIZE];
+    let mut b = [0u8; listing::STEP_SIZE];
+    let mut message = [0u8; listing::MESSAGE_SIZE];
     let mut out = io::large_buffer();
     let z = listing::start(&mut s);
     let used = listing::begin(&mut out);

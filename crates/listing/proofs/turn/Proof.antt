@@ -1,6 +1,5 @@
--- `listing::turn` meets its contract: each need by its law.
-use Rattle.listing.specs.Held.{kept-within}
-use Rattle.listing.specs.Turn.{turn-keep, turn-whole, turn-begun}
+-- `listing::turn` meets its contract.
+use Rattle.listing.specs.Turn.{turn-keep}
 use borrow.Author.Needs.{needs}
 use Rattle.listing.proofs.turn.Statement.{statement}
 use Rattle.listing.proofs.turn.Tie as tie
@@ -8,32 +7,11 @@ use Rattle.listing.proofs.turn.Tie as tie
 line-end-requires : tie.Need-line-end-requires
 line-end-requires c κs = search needs
 
-keep-requires : tie.Need-keep-requires
-keep-requires c κs = search needs
+take-ended-requires : tie.Need-take-ended-requires
+take-ended-requires c κs = search needs
 
 same-length : tie.Need-same-length
 same-length c = search needs
-
-returns : tie.Need-returns
-returns c = search turn-keep
-
-add-next : tie.Need-add-next
-add-next c = search needs
-
-add-n : tie.Need-add-n
-add-n c = search needs
-
-sub-take-line : tie.Need-sub-take-line
-sub-take-line c = search needs
-
-part-take-line-start : tie.Need-part-take-line-start
-part-take-line-start c = search needs
-
-part-take-line-end : tie.Need-part-take-line-end
-part-take-line-end c = search needs
-
-take-line-requires : tie.Need-take-line-requires
-take-line-requires c κs = search needs
 
 same-length-2 : tie.Need-same-length-2
 same-length-2 c = search needs
@@ -47,70 +25,30 @@ same-length-4 c = search needs
 same-length-5 : tie.Need-same-length-5
 same-length-5 c = search needs
 
-returns-2 : tie.Need-returns-2
-returns-2 c = search turn-whole
+returns : tie.Need-returns
+returns c = search needs
 
-keep-requires-2 : tie.Need-keep-requires-2
-keep-requires-2 c κs = search needs
-
-slice-reshare-prefix-take-line : tie.Need-slice-reshare-prefix-take-line
-slice-reshare-prefix-take-line c = search needs
-
-slice-aggregate-take-line : tie.Need-slice-aggregate-take-line
-slice-aggregate-take-line c = search kept-within
-
-take-line-requires-2 : tie.Need-take-line-requires-2
-take-line-requires-2 c κs = search needs
+keep-requires : tie.Need-keep-requires
+keep-requires c κs = search needs
 
 same-length-6 : tie.Need-same-length-6
 same-length-6 c = search needs
 
-same-length-7 : tie.Need-same-length-7
-same-length-7 c = search needs
-
-same-length-8 : tie.Need-same-length-8
-same-length-8 c = search needs
-
-same-length-9 : tie.Need-same-length-9
-same-length-9 c = search needs
-
-same-length-10 : tie.Need-same-length-10
-same-length-10 c = search needs
-
-returns-3 : tie.Need-returns-3
-returns-3 c =
-    turn-begun (c .before .before .before .before .before .before .before .before .before .before .before .before .before .before .before .before .before .before .before .before .before .before .before .before .before .before .before .before .pre)
-    (c .before .before .before .before .before .before .before .before .before .before .before .before .before .before .before .before .before .before .before .before .before .line-end .ensures)
-    (c .before .before .before .before .before .before .before .before .before .before .before .before .before .before .before .before .before .before .before .before .if1 .left)
-    (c .before .before .before .before .before .before .before .before .before .before .before .before .before .before .before .before .keep2 .ensures)
-    (c .before .before .before .before .before .before .before .before .take-line2 .ensures)
+returns-2 : tie.Need-returns-2
+returns-2 c = search turn-keep
 
 pub turn-spec : {M : Type 1} → statement M
 turn-spec =
     tie.close
     (tie.spec
     line-end-requires
-    keep-requires
+    take-ended-requires
     same-length
-    returns
-    add-next
-    add-n
-    sub-take-line
-    part-take-line-start
-    part-take-line-end
-    take-line-requires
     same-length-2
     same-length-3
     same-length-4
     same-length-5
-    returns-2
-    keep-requires-2
-    slice-reshare-prefix-take-line
-    slice-aggregate-take-line
-    take-line-requires-2
+    returns
+    keep-requires
     same-length-6
-    same-length-7
-    same-length-8
-    same-length-9
-    same-length-10
-    returns-3)
+    returns-2)

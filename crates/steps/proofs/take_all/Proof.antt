@@ -27,6 +27,7 @@ loop-again : tie.Need-loop-again Inv-loop μ-loop
 loop-again c =
     all-more (c .before .before .before .before .before .before .before .before .before .before .before .before .before .before .before .before .before .before .before .before .before .loop .inv)
     (c .before .before .before .before .before .before .before .before .before .before .before .before .before .before .before .before .before .before .before .before .loop-test .taken)
+    (c .before .before .before .before .before .before .before .before .before .before .before .before .before .before .before .before .before .before .before .if1 .taken)
     (c .before .before .before .before .before .before .before .before .before .before .before .before .take-some .ensures)
     (omega arith)
     (omega arith)

@@ -1,5 +1,5 @@
 -- `steps::take_last` meets its contract.
-use Rattle.steps.specs.All.{last-asks, last-taken}
+use Rattle.steps.specs.Some.{last-asks, last-taken}
 use borrow.Author.Needs.{needs}
 use Rattle.steps.proofs.take_last.Statement.{statement}
 use Rattle.steps.proofs.take_last.Tie as tie

@@ -1,5 +1,5 @@
 -- `steps::take_some` meets its contract.
-use Rattle.steps.specs.All.{some-taken, some-last}
+use Rattle.steps.specs.Some.{some-taken, some-failed, some-last}
 use native.Mathlib.Omega.{arith}
 use borrow.Author.Needs.{needs}
 use Rattle.steps.proofs.take_some.Statement.{statement}
@@ -18,7 +18,7 @@ same-length : tie.Need-same-length
 same-length c = search needs
 
 returns : tie.Need-returns
-returns c = search needs
+returns c = search some-failed
 
 count-requires : tie.Need-count-requires
 count-requires c κs = search needs
