@@ -32,8 +32,10 @@ printf 'start 0\n\nstart 0' >"$work/open"
 says "$work/open" '1;pid 1;0;1;0;0' '2;refused 2;0;1;0;0' '3;pid 2;0;1,2;0;0'
 
 # what cannot be written is said
-$steps <lists/001-listing-example.steps >/dev/full 2>"$work/said"
-[ -s "$work/said" ] || fail "steps says nothing of a write that failed"
+if [ -c /dev/full ]; then
+  $steps <lists/001-listing-example.steps >/dev/full 2>"$work/said"
+  [ -s "$work/said" ] || fail "steps says nothing of a write that failed"
+fi
 
 if [ -x "$oracle" ]; then
   for seed in 1 2 3 4; do
