@@ -9,3 +9,4 @@ pub mod Out
 pub mod Gone
 pub mod Found
 pub mod Parent
+pub mod InUse

@@ -5,6 +5,7 @@ use Prim.Native.Nat.{ℕ, suc, _+_, _<_}
 use native.Mathlib.Omega.{arith}
 use mir.Syntax.{w64}
 use mir.Val.{Fits}
+use lib.Dec.{lit<}
 use Rattle.machine.specs.Machine.{Machine}
 use Rattle.machine.specs.Update.{withTicks, withLastNow}
 use Rattle.layout.specs.Memory.{Memory}
@@ -14,6 +15,7 @@ use Rattle.state.specs.Fields as fields
 use Rattle.state.specs.Abs.{runList, waiterList, timerList, exitList, waitsOn, exitAt, processAt, machineOf}
 use Rattle.state.specs.Places.{sizesIn, memIn, PutIn}
 use Rattle.state.specs.declared.Sizes.{Sizes}
+use Rattle.holds.specs.Use.{usedBy, none, more, before}
 use Rattle.timer.specs.Only.{Owing}
 use Rattle.timer.specs.Del.{machineIn}
 use Rattle.clockwork.specs.Stores.{Became, became}
@@ -47,10 +49,10 @@ pub tick-made
     → v ≡ memIn z s fields.ticks 0
     → PutIn z s s′ (slot 0 48 8) 0 (v + 1)
     → Became z s s′ (tickStores (memIn z s)) (ticked (machineIn z s))
-unfolding machineOf
+unfolding machineOf usedBy
 tick-made {z} {s} {s′} {v} a e p =
     let w : suc (memIn z s fields.ticks 0) ≡ v + 1 = omega (arith, e) in
-    became (a .owing) (record { bytes = rw w (p .bytes); long = p .long }) (omega (arith, a .room)) (refl, tt)
+    became (a .owing) (record { bytes = rw w (p .bytes); long = p .long }) (omega (arith, a .room)) (refl, tt) (more (before (lit< tt)) none)
     (machine-ticks z (memIn z s) (suc (memIn z s fields.ticks 0)))
 
 -- The last reading.
@@ -67,5 +69,6 @@ pub now-set
     → PutIn z s s′ (slot 0 56 8) 0 v
     → Fits w64 v
     → Became z s s′ (nowStores v) (withLastNow v (machineIn z s))
+unfolding usedBy
 now-set {z} {s} {s′} {v} o p b =
-    became o (record { bytes = p .bytes; long = p .long }) (omega (arith, b)) (refl, tt) (machine-now z (memIn z s) v)
+    became o (record { bytes = p .bytes; long = p .long }) (omega (arith, b)) (refl, tt) (more (before (lit< tt)) none) (machine-now z (memIn z s) v)

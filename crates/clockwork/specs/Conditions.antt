@@ -7,6 +7,7 @@ use native.Mathlib.Omega.{arith}
 use mir.Syntax.{w8}
 use mir.Val.{Fits}
 use borrow.Author.Tests.{eq-eqb, ne-eqb}
+use lib.Dec.{lit<}
 use Rattle.machine.specs.Machine.{Machine, condition}
 use Rattle.machine.specs.Update.{withCondition}
 use Rattle.layout.specs.Memory.{Memory}
@@ -18,6 +19,7 @@ use Rattle.state.specs.Tables.{table-get}
 use Rattle.state.specs.Places.{sizesIn, memIn, PutIn}
 use Rattle.state.specs.declared.Sizes.{Sizes}
 use Rattle.holds.specs.Parts.{table-set}
+use Rattle.holds.specs.Use.{usedBy, none, more, before}
 use Rattle.lists.specs.Lists.{bit}
 use Rattle.timer.specs.Only.{Owing}
 use Rattle.timer.specs.Del.{machineIn}
@@ -78,5 +80,6 @@ pub condition-set
     → w ≡ bit v
     → PutIn z s s′ (slot 8 0 1) c w
     → Became z s s′ (conditionStores c v) (withCondition c v (machineIn z s))
+unfolding usedBy
 condition-set {z} {s} {s′} {c} {w} v o b e p =
-    became o (record { bytes = rw e at (p .bytes); long = p .long }) (omega (arith, b, bit-most v)) (refl, tt) (machine-condition z (memIn z s) c v)
+    became o (record { bytes = rw e at (p .bytes); long = p .long }) (omega (arith, b, bit-most v)) (refl, tt) (more (before (lit< tt)) none) (machine-condition z (memIn z s) c v)

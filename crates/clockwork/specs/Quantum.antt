@@ -18,6 +18,7 @@ use Rattle.exact.specs.Bounds.{InBounds}
 use Rattle.exact.specs.Parts.{usedAt, used-at, used-of}
 use Rattle.holds.specs.Whole.{holds-bounds}
 use Rattle.holds.specs.Parts.{table-set}
+use Rattle.holds.specs.Use.{usedBy, none, more, before}
 use Rattle.timer.specs.Only.{Owing}
 use Rattle.timer.specs.Del.{machineIn}
 use Rattle.clockwork.specs.Stores.{Became, became}
@@ -77,7 +78,7 @@ pub quantum-set
     → v ≡ memIn z s fields.ticks 0
     → PutIn z s s′ (slot 1 16 8) i (v + 10)
     → Became z s s′ (quantumStores (memIn z s) i) (dispatched i (machineIn z s))
-unfolding machineOf
+unfolding machineOf usedBy
 quantum-set {z} {s} {s′} {i} {v} a e p =
-    became (a .owing) (record { bytes = rw e at (p .bytes); long = p .long }) (omega (arith, a .index, a .room)) (refl, tt)
+    became (a .owing) (record { bytes = rw e at (p .bytes); long = p .long }) (omega (arith, a .index, a .room)) (refl, tt) (more (before (a .used)) none)
     (machine-quantum z (memIn z s) i (memIn z s fields.ticks 0 + 10) (holds-bounds (a .owing .holds)) (a .used))

@@ -1,7 +1,7 @@
 -- What a kernel timer does: its period, and the Rendez it wakes.
 use mathlib.Core.Path.{_≡_, refl, ap}
 use mathlib.Core.List.{List, [], _∷_}
-use Prim.Native.Nat.{ℕ, _≤_, _<_}
+use Prim.Native.Nat.{ℕ, _-_, _≤_, _<_}
 use native.Mathlib.Omega.{arith}
 use borrow.Author.Tests.{eq-eqb, ne-eqb}
 use Rattle.machine.specs.Machine.{Machine, Setting}
@@ -15,6 +15,7 @@ use Rattle.state.specs.Places.{sizesIn, memIn, PutIn}
 use Rattle.state.specs.declared.Sizes.{Sizes}
 use Rattle.timers.specs.Insert.{wrote-2}
 use Rattle.holds.specs.Parts.{table-set}
+use Rattle.holds.specs.Use.{usedBy, none, more, before}
 use Rattle.timer.specs.Only.{Owing}
 use Rattle.timer.specs.Del.{machineIn}
 use Rattle.clockwork.specs.Stores.{Became, became}
@@ -64,5 +65,7 @@ pub setting-made
     → PutIn z s s₁ (slot 5 8 8) t p
     → PutIn z s₁ s₂ (slot 5 16 2) t r
     → Became z s s₂ (settingStores t p r) (withSetting t (settingOf p r) (machineIn z s))
+unfolding usedBy
 setting-made {z} {s} {s₁} {s₂} {t} {p} {r} a p₁ p₂ =
-    became (a .owing) (wrote-2 p₁ p₂) (omega (arith, a .index, a .range, a .there)) (refl, (refl, tt)) (machine-setting z (memIn z s) t p r)
+    let there : 0 < z .timers - t = omega (arith, a .index) in
+    became (a .owing) (wrote-2 p₁ p₂) (omega (arith, a .index, a .range, a .there)) (refl, (refl, tt)) (more (before there) (more (before there) none)) (machine-setting z (memIn z s) t p r)

@@ -1,5 +1,5 @@
 -- Stores to fields that no group of what a state keeps reads.
-use mathlib.Core.Path.{_≡_, sym, ap, subst, _∙_}
+use mathlib.Core.Path.{_≡_, refl, sym, ap, subst, _∙_}
 use mathlib.Core.Bool.{Bool, true}
 use mathlib.Core.List.{List, [], _∷_}
 use Prim.Native.Nat.{ℕ}
@@ -13,6 +13,7 @@ use Rattle.state.specs.Abs.{machineOf}
 use Rattle.state.specs.Places.{sizesIn, memIn, Wrote}
 use Rattle.state.specs.declared.Sizes.{Sizes}
 use Rattle.holds.specs.Holds.{Holds}
+use Rattle.holds.specs.Use.{EachInUse, same-use}
 use Rattle.holds.specs.Touched.{Touched}
 use Rattle.timer.specs.Only.{Owing, owing-after, Only, plain, only-none, only-set}
 use Rattle.timer.specs.Aside.{holds-plain}
@@ -36,24 +37,28 @@ only-updates [] e o = o
 only-updates {test} {m} {m′} (w ∷ ws) e o =
     only-updates ws (e .1) (only-set (w .field) (alter (m′ (w .field)) (w .index) (w .value)) (e .0) o)
 
--- Stores in range to such fields, and what they make of the machine.
+-- Stores in range to such fields and to what is used, and what they make of the machine.
 pub became
     : {z : Sizes} {s s′ : List ℕ} {ws : List Write} {M : Machine}
     → Owing z s
     → Wrote z s s′ ws
     → Writable fields.layout1 (fields.mostOf (sizesIn z)) (fields.counts (sizesIn z)) ws
     → Each (λ (w : Write). plain (w .field) ≡ true) ws
+    → EachInUse z (memIn z s) (memIn z s′) ws
     → machineOf (sizesIn z) (updates (memIn z s) ws) ≡ M
     → Became z s s′ ws M
-became {z} {s} {s′} {ws} {M} o w ok e q =
+became {z} {s} {s′} {ws} {M} o w ok e u q =
     let d : memIn z s′ ≡ updates (memIn z s) ws =
     ap (λ (x : List ℕ). memIn z x) (w .bytes) ∙ written (ranges (sizesIn z) (o .holds .sizes)) (o .holds .state) ws ok
+    in
+    let b : Only plain (memIn z s) (memIn z s′) =
+    subst (Only plain (memIn z s)) (sym d) (only-updates ws e (only-none plain (memIn z s)))
     in
     let k : (n : ℕ) → Holds z s n → Holds z s′ n =
     holds-plain
     (subst (λ (x : List ℕ). State fields.layout1 (fields.mostOf (sizesIn z)) (fields.counts (sizesIn z)) x) (sym (w .bytes))
     (state-writes (ranges (sizesIn z) (o .holds .sizes)) (o .holds .state) ws ok))
-    (subst (Only plain (memIn z s)) (sym d) (only-updates ws e (only-none plain (memIn z s))))
+    b
     in
     record {
       holds = k;
@@ -61,5 +66,9 @@ became {z} {s} {s′} {ws} {M} o w ok e q =
       wrote = w;
       memory = d;
       machine = ap (λ (k : Memory). machineOf (sizesIn z) k) d ∙ q;
-      touched = record { stores = ws; writable = ok; bytes = w .bytes };
+      touched = record {
+        spares = record { stores = ws; writable = ok; bytes = w .bytes; inUse = u };
+        same =
+            same-use (b .same fields.pid refl) (b .same fields.isQueued refl) (b .same fields.owner refl) (b .same fields.messageLength refl);
+      };
     }

@@ -14,6 +14,9 @@ ghost use Rattle.clockwork.specs.Quantum.{quantumStores, dispatched, Qua
 ghost use Rattle.clockwork.specs.Preempt.{PreemptDue};
 ghost use Rattle.clockwork.specs.Conditions.{Condition, conditionStores};
 
+// The last reading of the clock that is accepted, 2^51 - 1.
+pub const MOST_NOW: u64 = 2_251_799_813_685_247;
+
 // Clock ticks.
 pub fn ticks(s: &[u8], z: Sizes) -> u64
     requires { ⌜ Owing z (now s) ⌝ }

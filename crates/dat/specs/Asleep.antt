@@ -15,6 +15,7 @@ use Rattle.rules.specs.Code.{Long}
 use Rattle.exact.specs.Bounds.{at-most}
 use Rattle.holds.specs.Holds.{Holds}
 use Rattle.holds.specs.Whole.{holds-bounds}
+use Rattle.holds.specs.Use.{usedBy, EachInUse, before, same-use}
 use Rattle.holds.specs.Did.{Did, did, did-join, did-as, machineIn, same, more}
 use Rattle.places.specs.Nowhere.{Nowhere}
 use Rattle.places.specs.Others.{others, keeps-with}
@@ -52,6 +53,7 @@ less-some a = omega (arith, a .holds .keeps .placed .asleep)
 
 -- What the code shows.
 pub lessened : {z : Sizes} {s s₁ : List ℕ} {v : ℕ} → LessAsks z s → v ≡ memIn z s fields.asleepCount 0 → PutIn z s s₁ (slot 0 32 2) 0 (v - 1) → Less z s s₁
+unfolding usedBy
 lessened {z} {s} {s₁} {v} a e p =
     let m : Memory = memIn z s in
     record {
@@ -61,10 +63,12 @@ lessened {z} {s} {s₁} {v} a e p =
           (record { listed = omega arith; index = omega arith }, omega (arith, at-most (holds-bounds (a .holds)) fields.asleepCount 0), tt)
           refl
           (λ n k. keeps-with (others k) (asleep-placed (k .placed) (asleepIn m - 1) n (omega (arith, k .placed .asleep))))
-          (asleep-machine (a .holds .keeps .placed) (asleepIn m - 1) (a .owed));
+          (asleep-machine (a .holds .keeps .placed) (asleepIn m - 1) (a .owed))
+          (EachInUse.more (before (omega arith)) EachInUse.none);
     }
 
 pub raised : {z : Sizes} {s s₁ : List ℕ} {v : ℕ} → MoreAsks z s → v ≡ memIn z s fields.asleepCount 0 → PutIn z s s₁ (slot 0 32 2) 0 (v + 1) → More z s s₁
+unfolding usedBy
 raised {z} {s} {s₁} {v} a e p =
     let m : Memory = memIn z s in
     record {
@@ -74,7 +78,8 @@ raised {z} {s} {s₁} {v} a e p =
           (record { listed = omega arith; index = omega arith }, omega (arith, a .room), tt)
           refl
           (λ n k. keeps-with (others k) (asleep-placed (k .placed) (suc (asleepIn m)) (suc n) (omega arith)))
-          (asleep-machine (a .holds .keeps .placed) (suc (asleepIn m)) (a .owed));
+          (asleep-machine (a .holds .keeps .placed) (suc (asleepIn m)) (a .owed))
+          (EachInUse.more (before (omega arith)) EachInUse.none);
     }
 
 -- The stores of `awaken`: one less is asleep, and i is readied.
@@ -110,6 +115,6 @@ awakened {z} {s} {s₁} {s₂} {i} a l r =
     let e : memIn z s₁ ≡ asleepMem (memIn z s) (asleepIn (memIn z s) - 1) = l .did .memory in
     record {
       did =
-          did-as (did-join (l .did) (r .did)) (ap (λ (k : Memory). to fields.asleepCount 0 (asleepIn (memIn z s) - 1) ∷ readyStores k i) e)
+          did-as (did-join (l .did) (r .did) (same-use refl refl refl refl)) (ap (λ (k : Memory). to fields.asleepCount 0 (asleepIn (memIn z s) - 1) ∷ readyStores k i) e)
           (ap (λ (k : Memory). readyMem k i) e) (ap (ready i) (l .did .machine));
     }

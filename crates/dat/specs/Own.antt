@@ -22,6 +22,7 @@ use Rattle.record.specs.Loads.{LoadAsks}
 use Rattle.exact.specs.Bounds.{InBounds, inside}
 use Rattle.holds.specs.Holds.{Holds}
 use Rattle.holds.specs.Whole.{holds-bounds}
+use Rattle.holds.specs.Use.{usedBy, EachInUse, before}
 use Rattle.holds.specs.Did.{Did, did, did-as, machineIn, same, wrote-2}
 use Rattle.places.specs.Nowhere.{Nowhere}
 use Rattle.places.specs.Others.{others, keeps-with}
@@ -37,6 +38,7 @@ pub record Stopped (z : Sizes) (s s′ : List ℕ) : Type 0 where
   pub nowhere : (i : ℕ) → memIn z s fields.up 0 ≡ suc i → Nowhere (sizesIn z) (memIn z s′) i
 
 pub stopped : {z : Sizes} {s s₁ : List ℕ} → StopAsks z s → PutIn z s s₁ (slot 0 26 2) 0 0 → Stopped z s s₁
+unfolding usedBy
 stopped {z} {s} {s₁} a p =
     let d : Did z s s₁ same same (to fields.up 0 0 ∷ []) (stopMem (memIn z s)) (withUp none (machineIn z s)) =
     did (to fields.up 0 0 ∷ []) (stopMem (memIn z s)) (withUp none (machineIn z s)) (a .holds) (p .bytes)
@@ -44,6 +46,7 @@ stopped {z} {s} {s₁} a p =
     refl
     (λ n k. keeps-with (others k) (stop-placed (k .placed)))
     (stop-machine (a .holds .keeps .placed))
+    (EachInUse.more (before (omega arith)) EachInUse.none)
     in
     record {
       did = d;
@@ -66,6 +69,7 @@ pub run-small : {z : Sizes} {s : List ℕ} {i : ℕ} → RunAsks z s i → i < 4
 run-small a = omega (arith, run-low a, a .holds .sizes .processes .1)
 
 pub ran : {z : Sizes} {s s₁ s₂ : List ℕ} {i : ℕ} → RunAsks z s i → PutIn z s s₁ (slot 0 26 2) 0 (i + 1) → PutIn z s₁ s₂ (slot 1 37 1) i 1 → Ran z s s₂ i
+unfolding usedBy
 ran {z} {s} {s₁} {s₂} {i} a p₁ p₂ =
     record {
       did =
@@ -74,7 +78,8 @@ ran {z} {s} {s₁} {s₂} {i} a p₁ p₂ =
           (record { listed = omega arith; index = omega arith }, run-low a, (record { listed = omega arith; index = run-low a }, omega arith, tt))
           refl
           (λ n k. keeps-with (others k) (run-placed (k .placed) (a .nowhere)))
-          (run-machine (a .holds .keeps .placed) (a .nowhere));
+          (run-machine (a .holds .keeps .placed) (a .nowhere))
+          (EachInUse.more (before (omega arith)) (EachInUse.more (before (a .nowhere .used)) EachInUse.none));
     }
 
 -- i, which is nowhere and not marked asleep, has the call r.
@@ -104,6 +109,7 @@ number-low (Qlock q) = omega arith
 number-low Wait = omega arith
 
 pub called : {z : Sizes} {s s₁ : List ℕ} {i : ℕ} {r : Resume} → CallAsks z s i r → Wrote z s s₁ (resumeStores i r) → Called z s s₁ i r
+unfolding usedBy
 called {z} {s} {s₁} {i} {r} a w =
     let m : Memory = memIn z s in
     let b : InBounds (sizesIn z) m = holds-bounds (a .holds) in
@@ -120,6 +126,7 @@ called {z} {s} {s₁} {i} {r} a w =
     (λ n x. keeps-with (others x) (call-placed b (x .placed) (a .nowhere) (a .awake) (numberOf r) (objectOf r) (conditionOf r)))
     (call-machine b (a .holds .keeps .placed) (a .nowhere) (a .awake) (numberOf r) (objectOf r) (conditionOf r)
     ∙ ap (λ (x : machine.Resume). withProcess i (withResume x (process (machineIn z s) i)) (machineIn z s)) (says-again r))
+    (EachInUse.more (before (a .nowhere .used)) (EachInUse.more (before (a .nowhere .used)) (EachInUse.more (before (a .nowhere .used)) EachInUse.none)))
     in
     record {
       did = d;

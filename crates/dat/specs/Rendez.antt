@@ -18,6 +18,7 @@ use Rattle.exact.specs.Bounds.{InBounds, at-most, inside}
 use Rattle.exact.specs.Parts.{sleeper-of, pid-of}
 use Rattle.holds.specs.Holds.{Holds}
 use Rattle.holds.specs.Whole.{holds-bounds}
+use Rattle.holds.specs.Use.{usedBy, EachInUse, before, same-use}
 use Rattle.holds.specs.Did.{Did, did, did-join, did-as, did-nothing, machineIn, same, more, wrote-1, wrote-2}
 use Rattle.holds.specs.Touched.{Touched, touched-none, touched-did}
 use Rattle.places.specs.Nowhere.{Nowhere}
@@ -91,6 +92,7 @@ taken-off
     → memIn z s fields.sleeperOf r ≡ suc i
     → PutIn z s s₁ (slot 3 0 2) r 0
     → TakenOff z s s₁ r i
+unfolding usedBy
 taken-off {z} {s} {s₁} {r} {i} a e p =
     let m : Memory = memIn z s in
     let b : InBounds (sizesIn z) m = holds-bounds (a .holds) in
@@ -100,6 +102,7 @@ taken-off {z} {s} {s₁} {r} {i} a e p =
     refl
     (λ n k. keeps-with (others k) (woken-placed b (k .placed) e))
     (woken-machine b (a .holds .keeps .placed) e)
+    (EachInUse.more (before (omega arith)) EachInUse.none)
     in
     record {
       did = d;
@@ -136,7 +139,7 @@ woke-one {z} {s} {s₁} {s₂} {r} {l} a e ne p w =
     let t : TakenOff z s s₁ r i = taken-off a x p in
     let o : sleeper (machineIn z s) r ≡ some i = sleeper-of (holds-bounds (a .holds)) r ∙ rw x in
     let d : Did z s s₂ same same (wakeStores m r i) (wakeMem m r i) (ready i (withSleeper r none (machineIn z s))) =
-    did-as (did-join (t .did) (w .did))
+    did-as (did-join (t .did) (w .did) (same-use refl refl refl refl))
     (ap (λ (k : Memory). to fields.sleeperOf r 0 ∷ awakenStores k i) (t .did .memory))
     (ap (λ (k : Memory). awakenMem k i) (t .did .memory))
     (ap (ready i) (t .did .machine))
@@ -152,7 +155,7 @@ woke-one {z} {s} {s₁} {s₂} {r} {l} a e ne p w =
           ∙ ap (λ (k : ℕ). k ∷ []) (sym (pid-of (holds-bounds (a .holds)) i))
           ∙ sym (wake-some (machineIn z s) r i o .1);
       range = omega (arith, e, at-most (holds-bounds (a .holds)) fields.sleeperOf r);
-      touched = touched-did d;
+      touched = touched-did d (same-use refl refl refl refl);
     }
 
 -- `sleep_on`: i, whose call is a `sleep` or `tsleep` on r, goes asleep there, where nobody is.
@@ -190,6 +193,7 @@ pub slept
     → PutIn z s₁ s₂ (slot 3 0 2) r (i + 1)
     → PutIn z s₂ s₃ (slot 1 37 1) i 3
     → Slept z s s₃ i r
+unfolding usedBy
 slept {z} {s} {s₁} {s₂} {s₃} {i} {r} a o p₁ p₂ =
     let m : Memory = memIn z s in
     let m₁ : Memory = asleepMem m (suc (asleepIn m)) in
@@ -208,5 +212,6 @@ slept {z} {s} {s₁} {s₂} {s₃} {i} {r} a o p₁ p₂ =
     refl
     (λ n k. keeps-with (others k) (sleep-placed b (k .placed) w c (a .index) f))
     (sleep-machine b (h₁ .keeps .placed) w c (a .index) f)
+    (EachInUse.more (before (omega arith)) (EachInUse.more (before (w .used)) EachInUse.none))
     in
-    record { did = did-as (did-join (o .did) d) refl (ap (λ (k : Memory). sleepMem k i r) e) (ap (withSleeper r (some i)) (o .did .machine)) }
+    record { did = did-as (did-join (o .did) d (same-use refl refl refl refl)) refl (ap (λ (k : Memory). sleepMem k i r) e) (ap (withSleeper r (some i)) (o .did .machine)) }

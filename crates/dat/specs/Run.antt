@@ -24,9 +24,11 @@ use Rattle.queue.specs.Push.{pushWrites, push-writable, PushAsks, PushDone}
 use Rattle.queue.specs.Pop.{popWrites, popHead, PopAsks, PopDone}
 use Rattle.holds.specs.Holds.{Keeps, Holds}
 use Rattle.holds.specs.Whole.{holds-bounds}
+use Rattle.holds.specs.Use.{usedBy, EachInUse, before, in-use-runs}
 use Rattle.holds.specs.Did.{Did, did, machineIn, same, WritableIn, writesIn, wrote-1, wrote-2, writable-join, did-nothing}
 use Rattle.places.specs.Nowhere.{Nowhere}
 use Rattle.places.specs.Others.{others, keeps-with}
+use Rattle.places.specs.Stores.{run-last-used, push-in-use}
 use Rattle.places.specs.Run.{readyMem, ready-machine, ready-placed, nextMem, next-machine, next-placed, next-nowhere}
 
 -- The queue as the header holds it.
@@ -122,6 +124,7 @@ pub readied
     → Wrote z s₁ s₂ (runStores r)
     → PutIn z s₂ s₃ (slot 1 37 1) i 2
     → Readied z s s₃ i
+unfolding usedBy
 readied {z} {s} {s₁} {s₂} {s₃} {i} {q} {r} a l d w p =
     let m : Memory = memIn z s in
     let b : InBounds (sizesIn z) m = holds-bounds (a .holds) in
@@ -142,7 +145,9 @@ readied {z} {s} {s₁} {s₂} {s₃} {i} {q} {r} a l d w p =
           (ready-writable a)
           (ready-updates m (m fields.runTail 0) i refl)
           (λ n k. keeps-with (others k) (ready-placed (k .placed) (a .nowhere) low))
-          (ready-machine (a .holds .keeps .placed) (a .nowhere) low);
+          (ready-machine (a .holds .keeps .placed) (a .nowhere) low)
+          (in-use-runs (push-in-use (m fields.runTail 0) i (a .nowhere .used) (run-last-used (a .holds .keeps .placed)))
+          (EachInUse.more (before (omega arith)) (EachInUse.more (before (omega arith)) (EachInUse.more (before (a .nowhere .used)) EachInUse.none))));
     }
 
 -- The stores by which the first, i, is taken off.
@@ -199,6 +204,7 @@ pub next-one
     → (t .link ≡ 0 → ⊥)
     → Wrote z s₁ s₂ (runStores (t .queue))
     → NextTaken z s s₂ (t .link)
+unfolding usedBy
 next-one {z} {s} {s₁} {s₂} {q} {t} a l d ne w =
     record { none = λ e. absurd (ne e); one = λ _. go (runList (sizesIn z) m) refl; range = d .link }
   where
@@ -259,6 +265,7 @@ next-one {z} {s} {s₁} {s₂} {q} {t} a l d ne w =
             (rw (newHead, newTail) at (all .bytes)) ok refl
             (λ n k. keeps-with (others k) (next-placed (k .placed) xs e))
             (next-machine (a .holds .keeps .placed) xs e)
+            (EachInUse.more (before (next-nowhere (a .holds .keeps .placed) xs e .used)) (EachInUse.more (before (omega arith)) (EachInUse.more (before (omega arith)) EachInUse.none)))
 
         one : NextOne z s s₂ i
         one =

@@ -21,6 +21,7 @@ use Rattle.exact.specs.Bounds.{InBounds, inside}
 use Rattle.exact.specs.Parts.{waitr-of, pid-of}
 use Rattle.holds.specs.Holds.{Holds}
 use Rattle.holds.specs.Whole.{holds-bounds}
+use Rattle.holds.specs.Use.{usedBy, EachInUse, before, same-use}
 use Rattle.holds.specs.Did.{Did, did, did-join, did-as, machineIn, same, more}
 use Rattle.holds.specs.Touched.{Touched, touched-none, touched-did}
 use Rattle.places.specs.Nowhere.{Nowhere, waits-state, waits-call}
@@ -52,6 +53,7 @@ pub wait-low : {z : Sizes} {s : List ℕ} {i : ℕ} → WaitAsks z s i → i < z
 wait-low {i = i} a = inside (holds-bounds (a .holds)) fields.pid i (a .nowhere .used)
 
 pub waited : {z : Sizes} {s s₁ s₂ : List ℕ} {i : ℕ} → WaitAsks z s i → More z s s₁ → PutIn z s₁ s₂ (slot 1 37 1) i 3 → Waited z s s₂ i
+unfolding usedBy
 waited {z} {s} {s₁} {s₂} {i} a o p =
     let m : Memory = memIn z s in
     let e : memIn z s₁ ≡ asleepMem m (suc (asleepIn m)) = o .did .memory in
@@ -65,10 +67,11 @@ waited {z} {s} {s₁} {s₂} {i} a o p =
     refl
     (λ n k. keeps-with (others k) (wait-placed b (k .placed) w c))
     (wait-machine b (h .keeps .placed) w c)
+    (EachInUse.more (before (w .used)) EachInUse.none)
     in
     record {
       did =
-          did-as (did-join (o .did) d) refl (ap (λ (k : Memory). stateMem k i 3) e)
+          did-as (did-join (o .did) d (same-use refl refl refl refl)) refl (ap (λ (k : Memory). stateMem k i 3) e)
           (ap (λ (x : Machine). withProcess i (withOnWaitr true (process x i)) x) (o .did .machine));
     }
 
@@ -143,6 +146,7 @@ pub record OwnOff (z : Sizes) (s s₁ : List ℕ) (i : ℕ) : Type 0 where
   pub nowhere : Nowhere (sizesIn z) (memIn z s₁) i
 
 own-off : {z : Sizes} {s s₁ : List ℕ} {i : ℕ} → OwnAsks z s i → waitsOn (memIn z s) i ≡ true → PutIn z s s₁ (slot 1 37 1) i 2 → OwnOff z s s₁ i
+unfolding usedBy
 own-off {z} {s} {s₁} {i} a e p =
     let b : InBounds (sizesIn z) (memIn z s) = holds-bounds (a .holds) in
     let d : Did z s s₁ same more (to fields.stateOf i 2 ∷ []) (stateMem (memIn z s) i 2) (withProcess i (withOnWaitr false (process (machineIn z s) i)) (machineIn z s)) =
@@ -151,6 +155,7 @@ own-off {z} {s} {s₁} {i} a e p =
     refl
     (λ n k. keeps-with (others k) (unwait-placed b (k .placed) i e))
     (unwait-machine b (a .holds .keeps .placed) i e)
+    (EachInUse.more (before (unwait-nowhere b (a .holds .keeps .placed) i e .used)) EachInUse.none)
     in
     record {
       did = d;
@@ -181,7 +186,7 @@ own-woken {z} {s} {s₁} {s₂} {i} {t} a v e p w =
     let u : OwnOff z s s₁ i = own-off a x p in
     let o : process (machineIn z s) i .onWaitr ≡ true = waitr-of (holds-bounds (a .holds)) i (a .holds .keeps .placed .free i) ∙ x in
     let y : Did z s s₂ same same (ownStores (memIn z s) i) (awakenMem (stateMem (memIn z s) i 2) i) (wakeWaitr i (machineIn z s) .machine) =
-    did-as (did-join (u .did) (w .did))
+    did-as (did-join (u .did) (w .did) (same-use refl refl refl refl))
     (ap (λ (k : Memory). to fields.stateOf i 2 ∷ awakenStores k i) (u .did .memory))
     (ap (λ (k : Memory). awakenMem k i) (u .did .memory))
     (ap (ready i) (u .did .machine) ∙ sym (wakes-yes (machineIn z s) i o))
@@ -193,5 +198,5 @@ own-woken {z} {s} {s₁} {s₂} {i} {t} a v e p w =
       holds = y .holds;
       machine = y .machine;
       asleep = o;
-      touched = touched-did y;
+      touched = touched-did y (same-use refl refl refl refl);
     }

@@ -7,10 +7,12 @@ use lib.ListN.{length, take, drop, length-drop}
 use lib.Seq.{take-all}
 use Rattle.machine.specs.Step.{kinds, fill}
 use Rattle.machine.specs.Bytes.{numbersAt}
+use Rattle.decode.specs.declared.TsleepFields.{TsleepFields}
+use Rattle.decode.specs.declared.TaddFields.{TaddFields}
 use Rattle.decode.specs.declared.Call.the-variants.{Start, Rfork, Name, Sched, Yield, Sleep, Tsleep, Wakeup, Qlock, Canqlock, Qunlock, Cond, Clock, Tadd, Tdel, Intr, Due, Exit, Wait}
 use Rattle.decode.specs.Fitting.{formed, given, Fitted}
 use Rattle.decode.specs.Means.{bodyOf, Ranged}
-use Rattle.decode.specs.Reads.{Number, Read, has-string}
+use Rattle.decode.specs.Reads.{Number, TsleepRead, TaddRead, Read, has-string}
 
 -- A byte string goes to the end of the bytes.
 pub whole-string : (b : List ℕ) (n : ℕ) → 6 + n ≡ length b → take n (drop 6 b) ≡ drop 6 b
@@ -43,16 +45,13 @@ pub read-sleep : {b : List ℕ} {k r c : ℕ} → k ≡ 6 → Number b 0 r → N
 unfolding bodyOf Ranged given formed kinds fill numbersAt
 read-sleep e r c = record { body = rw (e, r .value, c .value); ranged = (r .below, c .below) }
 
-pub read-tsleep : {b : List ℕ} {k r c t n now : ℕ}
-    → k ≡ 7
-    → Number b 0 r
-    → Number b 1 c
-    → Number b 2 t
-    → Number b 3 n
-    → Number b 4 now
-    → Read b k (Tsleep r c t n now)
+pub read-tsleep : {b : List ℕ} {k : ℕ} {f : TsleepFields} → k ≡ 7 → TsleepRead b f → Read b k (Tsleep f)
 unfolding bodyOf Ranged given formed kinds fill numbersAt
-read-tsleep e r c t n now = record { body = rw (e, r .value, c .value, t .value, n .value, now .value); ranged = (r .below, c .below, t .below, n .below, now .below) }
+read-tsleep e r =
+    record {
+      body = rw (e, r .rendez .value, r .condition .value, r .seconds .value, r .nanoseconds .value, r .reading .value);
+      ranged = (r .rendez .below, r .condition .below, r .seconds .below, r .nanoseconds .below, r .reading .below);
+    }
 
 pub read-wakeup : {b : List ℕ} {k r : ℕ} → k ≡ 8 → Number b 0 r → Read b k (Wakeup r)
 unfolding bodyOf Ranged given formed kinds fill numbersAt
@@ -78,17 +77,13 @@ pub read-clock : {b : List ℕ} {k now : ℕ} → k ≡ 13 → Number b 0 now �
 unfolding bodyOf Ranged given formed kinds fill numbersAt
 read-clock e now = record { body = rw (e, now .value); ranged = now .below }
 
-pub read-tadd : {b : List ℕ} {k t k′ d n r now : ℕ}
-    → k ≡ 14
-    → Number b 0 t
-    → Number b 1 k′
-    → Number b 2 d
-    → Number b 3 n
-    → Number b 4 r
-    → Number b 5 now
-    → Read b k (Tadd t k′ d n r now)
+pub read-tadd : {b : List ℕ} {k : ℕ} {f : TaddFields} → k ≡ 14 → TaddRead b f → Read b k (Tadd f)
 unfolding bodyOf Ranged given formed kinds fill numbersAt
-read-tadd e t k′ d n r now = record { body = rw (e, t .value, k′ .value, d .value, n .value, r .value, now .value); ranged = (t .below, k′ .below, d .below, n .below, r .below, now .below) }
+read-tadd e r =
+    record {
+      body = rw (e, r .timer .value, r .kind .value, r .seconds .value, r .nanoseconds .value, r .rendez .value, r .reading .value);
+      ranged = (r .timer .below, r .kind .below, r .seconds .below, r .nanoseconds .below, r .rendez .below, r .reading .below);
+    }
 
 pub read-tdel : {b : List ℕ} {k t : ℕ} → k ≡ 15 → Number b 0 t → Read b k (Tdel t)
 unfolding bodyOf Ranged given formed kinds fill numbersAt

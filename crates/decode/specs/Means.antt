@@ -6,9 +6,18 @@ use mathlib.Core.Option.{Option, none, some}
 use Prim.Native.Nat.{ℕ, _+_, _<_}
 use lib.ListN.{length, take, drop}
 use Rattle.machine.specs.Step.{Step, Body, start, rfork, name, sched, yield, sleep, tsleep, wakeup, qlock, canqlock, qunlock, cond, clock, tadd, tdel, intr, due, exit, wait}
+use Rattle.decode.specs.declared.TsleepFields.{TsleepFields}
+use Rattle.decode.specs.declared.TaddFields.{TaddFields}
 use Rattle.decode.specs.declared.Call.{Call}
 use Rattle.decode.specs.declared.Call.the-variants.{None, Start, Rfork, Name, Sched, Yield, Sleep, Tsleep, Wakeup, Qlock, Canqlock, Qunlock, Cond, Clock, Tadd, Tdel, Intr, Due, Exit, Wait}
 use Rattle.decode.specs.declared.Decoded.{Decoded}
+
+-- The steps of many fields.
+abbrev pub tsleepOf : TsleepFields → Body
+tsleepOf f = tsleep (f .rendez) (f .condition) (f .seconds) (f .nanoseconds) (f .reading)
+
+abbrev pub taddOf : TaddFields → Body
+taddOf f = tadd (f .timer) (f .kind) (f .seconds) (f .nanoseconds) (f .rendez) (f .reading)
 
 -- What a case asks, of the bytes s that it was read from.
 unfoldable pub bodyOf : Call → List ℕ → Option Body
@@ -19,14 +28,14 @@ bodyOf (Name n) s = some (name (take n (drop 6 s)))
 bodyOf Sched s = some sched
 bodyOf Yield s = some yield
 bodyOf (Sleep r c) s = some (sleep r c)
-bodyOf (Tsleep r c t n now) s = some (tsleep r c t n now)
+bodyOf (Tsleep f) s = some (tsleepOf f)
 bodyOf (Wakeup r) s = some (wakeup r)
 bodyOf (Qlock q) s = some (qlock q)
 bodyOf (Canqlock q) s = some (canqlock q)
 bodyOf (Qunlock q) s = some (qunlock q)
 bodyOf (Cond c v) s = some (cond c v)
 bodyOf (Clock now) s = some (clock now)
-bodyOf (Tadd t k d n r now) s = some (tadd t k d n r now)
+bodyOf (Tadd f) s = some (taddOf f)
 bodyOf (Tdel t) s = some (tdel t)
 bodyOf (Intr now) s = some (intr now)
 bodyOf Due s = some due
@@ -55,14 +64,14 @@ Ranged (Name n) s = 6 + n ≡ length s
 Ranged Sched s = Unit {0}
 Ranged Yield s = Unit {0}
 Ranged (Sleep r c) s = Below r × Below c
-Ranged (Tsleep r c t n now) s = Below r × Below c × Below t × Below n × Below now
+Ranged (Tsleep f) s = Below (f .rendez) × Below (f .condition) × Below (f .seconds) × Below (f .nanoseconds) × Below (f .reading)
 Ranged (Wakeup r) s = Below r
 Ranged (Qlock q) s = Below q
 Ranged (Canqlock q) s = Below q
 Ranged (Qunlock q) s = Below q
 Ranged (Cond c v) s = Below c × Below v
 Ranged (Clock now) s = Below now
-Ranged (Tadd t k d n r now) s = Below t × Below k × Below d × Below n × Below r × Below now
+Ranged (Tadd f) s = Below (f .timer) × Below (f .kind) × Below (f .seconds) × Below (f .nanoseconds) × Below (f .rendez) × Below (f .reading)
 Ranged (Tdel t) s = Below t
 Ranged (Intr now) s = Below now
 Ranged Due s = Unit {0}

@@ -8,6 +8,8 @@ use lib.Dec.{T, eqb, ltb, ltb→lt, eqb→eq}
 use lib.ListN.{length, getD}
 use Rattle.memory.specs.Le.{le}
 use Rattle.machine.specs.Step.{kinds}
+use Rattle.decode.specs.declared.TsleepFields.{TsleepFields}
+use Rattle.decode.specs.declared.TaddFields.{TaddFields}
 use Rattle.decode.specs.declared.Call.{Call}
 use Rattle.decode.specs.Fitting.{fieldsFor, given, Fitted, and-left, and-right}
 use Rattle.decode.specs.Fits.{table, tabled, numbers-long, string-long}
@@ -20,6 +22,22 @@ pub record Behind (b : List ℕ) (j : ℕ) : Type 0 where
 pub record Number (b : List ℕ) (j r : ℕ) : Type 0 where
   pub value : r ≡ le 8 b (2 + 8 * j)
   pub below : Below r
+
+-- The numbers of the steps of many fields.
+pub record TsleepRead (b : List ℕ) (f : TsleepFields) : Type 0 where
+  pub rendez : Number b 0 (f .rendez)
+  pub condition : Number b 1 (f .condition)
+  pub seconds : Number b 2 (f .seconds)
+  pub nanoseconds : Number b 3 (f .nanoseconds)
+  pub reading : Number b 4 (f .reading)
+
+pub record TaddRead (b : List ℕ) (f : TaddFields) : Type 0 where
+  pub timer : Number b 0 (f .timer)
+  pub kind : Number b 1 (f .kind)
+  pub seconds : Number b 2 (f .seconds)
+  pub nanoseconds : Number b 3 (f .nanoseconds)
+  pub rendez : Number b 4 (f .rendez)
+  pub reading : Number b 5 (f .reading)
 
 -- What the bytes of kind k ask.
 pub record Read (b : List ℕ) (k : ℕ) (r : Call) : Type 0 where

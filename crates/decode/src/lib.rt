@@ -2,72 +2,49 @@
 ghost use mathlib.Core.Path.{_≡_};
 ghost use Rattle.machine.specs.Step.{kinds};
 ghost use Rattle.decode.specs.Fitting.{fieldsFor, Fits, Fitted};
-ghost use Rattle.decode.specs.Reads.{Behind, Number, LowAsks, MiddleAsks, HighAsks, Read};
+ghost use Rattle.decode.specs.Reads.{Behind, Number, TsleepRead, TaddRead, LowAsks, MiddleAsks, HighAsks, Read};
 ghost use Rattle.decode.specs.Decodes.{Decodes};
+
+// What a `tsleep` asks.
+pub struct TsleepFields {
+    pub rendez: u64,
+    pub condition: u64,
+    pub seconds: u64,
+    pub nanoseconds: u64,
+    pub reading: u64,
+}
+
+// What a `tadd` asks.
+pub struct TaddFields {
+    pub timer: u64,
+    pub kind: u64,
+    pub seconds: u64,
+    pub nanoseconds: u64,
+    pub rendez: u64,
+    pub reading: u64,
+}
 
 // What a step asks; `None` where the bytes are no step. A byte string is the bytes from 6 on, as many as `length` says.
 pub enum Call {
     None,
-    Start {
-        how: u64,
-    },
-    Rfork {
-        flags: u64,
-        how: u64,
-    },
-    Name {
-        length: usize,
-    },
+    Start { how: u64 },
+    Rfork { flags: u64, how: u64 },
+    Name { length: usize },
     Sched,
     Yield,
-    Sleep {
-        rendez: u64,
-        condition: u64,
-    },
-    Tsleep {
-        rendez: u64,
-        condition: u64,
-        seconds: u64,
-        nanoseconds: u64,
-        reading: u64,
-    },
-    Wakeup {
-        rendez: u64,
-    },
-    Qlock {
-        lock: u64,
-    },
-    Canqlock {
-        lock: u64,
-    },
-    Qunlock {
-        lock: u64,
-    },
-    Cond {
-        condition: u64,
-        value: u64,
-    },
-    Clock {
-        reading: u64,
-    },
-    Tadd {
-        timer: u64,
-        kind: u64,
-        seconds: u64,
-        nanoseconds: u64,
-        rendez: u64,
-        reading: u64,
-    },
-    Tdel {
-        timer: u64,
-    },
-    Intr {
-        reading: u64,
-    },
+    Sleep { rendez: u64, condition: u64 },
+    Tsleep { asked: TsleepFields },
+    Wakeup { rendez: u64 },
+    Qlock { lock: u64 },
+    Canqlock { lock: u64 },
+    Qunlock { lock: u64 },
+    Cond { condition: u64, value: u64 },
+    Clock { reading: u64 },
+    Tadd { asked: TaddFields },
+    Tdel { timer: u64 },
+    Intr { reading: u64 },
     Due,
-    Exit {
-        length: usize,
-    },
+    Exit { length: usize },
     Wait,
 }
 
@@ -143,6 +120,35 @@ fn number(b: &[u8], j: usize) -> u64
     memory::load64(b, 2 + 8 * j)
 }
 
+// The fields of a `tsleep`.
+fn tsleep(b: &[u8]) -> TsleepFields
+    requires { ⌜ Behind (now b) 4 ⌝ }
+    ensures { λ r. ⌜ TsleepRead (now (b .entry)) r ⌝ }
+{
+    TsleepFields {
+        rendez: number(b, 0),
+        condition: number(b, 1),
+        seconds: number(b, 2),
+        nanoseconds: number(b, 3),
+        reading: number(b, 4),
+    }
+}
+
+// The fields of a `tadd`.
+fn tadd(b: &[u8]) -> TaddFields
+    requires { ⌜ Behind (now b) 5 ⌝ }
+    ensures { λ r. ⌜ TaddRead (now (b .entry)) r ⌝ }
+{
+    TaddFields {
+        timer: number(b, 0),
+        kind: number(b, 1),
+        seconds: number(b, 2),
+        nanoseconds: number(b, 3),
+        rendez: number(b, 4),
+        reading: number(b, 5),
+    }
+}
+
 // Kinds 1 to 7.
 fn low(b: &[u8], kind: u8) -> Call
     requires { ⌜ LowAsks (now b) kind ⌝ }
@@ -163,13 +169,7 @@ fn low(b: &[u8], kind: u8) -> Call
             rendez: number(b, 0),
             condition: number(b, 1),
         },
-        7 => Call::Tsleep {
-            rendez: number(b, 0),
-            condition: number(b, 1),
-            seconds: number(b, 2),
-            nanoseconds: number(b, 3),
-            reading: number(b, 4),
-        },
+        7 => Call::Tsleep { asked: tsleep(b) },
         _ => Call::None,
     }
 }
@@ -203,14 +203,7 @@ fn high(b: &[u8], kind: u8) -> Call
     ensures { λ r. ⌜ Read (now (b .entry)) kind r ⌝ }
 {
     match kind {
-        14 => Call::Tadd {
-            timer: number(b, 0),
-            kind: number(b, 1),
-            seconds: number(b, 2),
-            nanoseconds: number(b, 3),
-            rendez: number(b, 4),
-            reading: number(b, 5),
-        },
+        14 => Call::Tadd { asked: tadd(b) },
         15 => Call::Tdel {
             timer: number(b, 0),
         },

@@ -12,6 +12,7 @@ use Rattle.state.specs.Ranges.{ranges}
 use Rattle.state.specs.Places.{sizesIn, memIn, totalIn, PutIn, Wrote, wrote-more}
 use Rattle.state.specs.declared.Sizes.{Sizes}
 use Rattle.holds.specs.Holds.{Keeps, Holds}
+use Rattle.holds.specs.Use.{EachInUse, none, SameUse, fewer-same, between-first, in-use-join}
 
 -- The bytes after stores, and that stores are in range.
 abbrev pub writesIn : Sizes → List ℕ → List Write → List ℕ
@@ -30,16 +31,17 @@ same n = n
 abbrev pub more : ℕ → ℕ
 more n = suc n
 
--- The operation took bytes s to s′ by the stores ws, each in range: then the memory is k and the machine a; what was kept is kept, with
--- `after n` owed where `before n` were.
+-- The operation took bytes s to s′ by the stores ws, each in range and to what the machine uses before or after: then the memory is k and
+-- the machine a; what was kept is kept, with `after n` owed where `before n` were.
 pub record Did (z : Sizes) (s s′ : List ℕ) (before after : ℕ → ℕ) (ws : List Write) (k : Memory) (a : Machine) : Type 0 where
   pub holds : (n : ℕ) → Holds z s (before n) → Holds z s′ (after n)
   pub bytes : s′ ≡ writesIn z s ws
   pub writable : WritableIn z ws
   pub memory : memIn z s′ ≡ k
   pub machine : machineIn z s′ ≡ a
+  pub inUse : EachInUse z (memIn z s) k ws
 
--- From the stores: that they are in range, what they make of the memory, that this keeps all, and its machine.
+-- From the stores: that they are in range, what they make of the memory, that this keeps all, its machine, and that they go to what is used.
 pub did
     : {z : Sizes} {s s′ : List ℕ} {owed : ℕ} {before after : ℕ → ℕ} (ws : List Write) (k : Memory) (a : Machine)
     → Holds z s owed
@@ -48,8 +50,9 @@ pub did
     → updates (memIn z s) ws ≡ k
     → ((n : ℕ) → Keeps (sizesIn z) (memIn z s) (before n) → Keeps (sizesIn z) k (after n))
     → machineOf (sizesIn z) k ≡ a
+    → EachInUse z (memIn z s) k ws
     → Did z s s′ before after ws k a
-did {z} {s} {s′} {owed} {before} {after} ws k a h b ok e keeps m =
+did {z} {s} {s′} {owed} {before} {after} ws k a h b ok e keeps m u =
     let x : memIn z s′ ≡ k =
     ap (λ (t : List ℕ). memIn z t) b ∙ written (ranges (sizesIn z) (h .sizes)) (h .state) ws ok ∙ e
     in
@@ -66,6 +69,7 @@ did {z} {s} {s′} {owed} {before} {after} ws k a h b ok e keeps m =
       writable = ok;
       memory = x;
       machine = ap (machineOf (sizesIn z)) x ∙ m;
+      inUse = u;
     }
 
 -- Stores in range, one run after another.
@@ -73,13 +77,14 @@ pub writable-join : (z : Sizes) (ws ws′ : List Write) → WritableIn z ws → 
 writable-join z [] ws′ a b = b
 writable-join z (w ∷ ws) ws′ a b = (a .0, a .1, writable-join z ws ws′ (a .2) b)
 
--- One operation after another.
+-- One operation after another; the first leaves what is used.
 pub did-join
     : {z : Sizes} {s s₁ s₂ : List ℕ} {f g h : ℕ → ℕ} {ws ws′ : List Write} {k k′ : Memory} {a b : Machine}
     → Did z s s₁ f g ws k a
     → Did z s₁ s₂ g h ws′ k′ b
+    → SameUse z (memIn z s) k
     → Did z s s₂ f h (ws ++ ws′) k′ b
-did-join {z} {s} {s₁} {s₂} {ws = ws} {ws′ = ws′} p q =
+did-join {z} {s} {s₁} {s₂} {ws = ws} {ws′ = ws′} {k = k} {k′ = k′} p q u =
     record {
       holds = λ n x. q .holds n (p .holds n x);
       bytes =
@@ -89,6 +94,8 @@ did-join {z} {s} {s₁} {s₂} {ws = ws} {ws′ = ws′} p q =
       writable = writable-join z ws ws′ (p .writable) (q .writable);
       memory = q .memory;
       machine = q .machine;
+      inUse =
+          in-use-join (between-first (fewer-same u)) (p .inUse) (subst (λ (m : Memory). EachInUse z m k′ ws′) (p .memory) (q .inUse));
     }
 
 -- The same, said of other stores, memory and machine.
@@ -99,18 +106,20 @@ pub did-as
     → k ≡ k′
     → a ≡ b
     → Did z s s′ f g ws′ k′ b
-did-as {z} {s} p e d c =
+did-as {z} {s} {ws = ws} {k′ = k′} p e d c =
     record {
       holds = p .holds;
       bytes = p .bytes ∙ ap (writesIn z s) e;
       writable = subst (WritableIn z) e (p .writable);
       memory = p .memory ∙ d;
       machine = p .machine ∙ c;
+      inUse =
+          subst (EachInUse z (memIn z s) k′) e (subst (λ (m : Memory). EachInUse z (memIn z s) m ws) d (p .inUse));
     }
 
 -- Nothing done.
 pub did-nothing : {z : Sizes} {s : List ℕ} {f : ℕ → ℕ} → Did z s s f f [] (memIn z s) (machineIn z s)
-did-nothing = record { holds = λ n x. x; bytes = refl; writable = tt; memory = refl; machine = refl }
+did-nothing = record { holds = λ n x. x; bytes = refl; writable = tt; memory = refl; machine = refl; inUse = none }
 
 -- A store as a run of one, and of two.
 pub wrote-1 : {z : Sizes} {s s₁ : List ℕ} {f i v : ℕ} → PutIn z s s₁ (field fields.layout1 f) i v → Wrote z s s₁ (to f i v ∷ [])

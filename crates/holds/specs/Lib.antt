@@ -3,5 +3,7 @@ pub mod Holds
 pub mod Whole
 pub mod Parts
 pub mod Frames
+pub mod Use
+pub mod Fewer
 pub mod Did
 pub mod Touched

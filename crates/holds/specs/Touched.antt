@@ -1,5 +1,5 @@
--- Which bytes an operation or a step writes: those of the layout's fields, and no other.
-use mathlib.Core.Path.{_≡_, refl, sym, ap, _∙_}
+-- Which bytes an operation or a step writes: those of the layout's fields that the machine uses before or after, and no other.
+use mathlib.Core.Path.{_≡_, refl, sym, ap, subst, _∙_}
 use mathlib.Core.List.{List, [], _∷_, _++_}
 use Prim.Native.Nat.{ℕ, zero, suc, _+_, _/_, _%_, _≤_}
 use native.Mathlib.Omega.{arith}
@@ -10,33 +10,63 @@ use Rattle.machine.specs.Machine.{Machine}
 use Rattle.layout.specs.Table.{field, place}
 use Rattle.layout.specs.Place.{inside-at, below-total}
 use Rattle.layout.specs.Memory.{Memory, store, write, In}
-use Rattle.layout.specs.Writes.{Write, writes-join, length-writes}
+use Rattle.layout.specs.Writes.{Write, writes-join, length-writes, written}
 use Rattle.state.specs.Fields as fields
 use Rattle.state.specs.Ranges.{ranges}
-use Rattle.state.specs.Places.{sizesIn, totalIn}
+use Rattle.state.specs.Places.{sizesIn, memIn, totalIn}
 use Rattle.state.specs.declared.Sizes.{Sizes}
 use Rattle.holds.specs.Holds.{Holds}
+use Rattle.holds.specs.Use.{used, EachInUse, none, SameUse, same-use, same-join, Fewer, fewer-same, Between, between-first, between-last, in-use-join, updates-spare}
 use Rattle.holds.specs.Did.{Did, writesIn, WritableIn, writable-join}
 
--- The bytes s became s′ by stores to fields, each in range.
-pub record Touched (z : Sizes) (s s′ : List ℕ) : Type 0 where
+-- The bytes s became s′ by stores to fields, each in range and to what the machine uses before or after.
+pub record Spares (z : Sizes) (s s′ : List ℕ) : Type 0 where
   pub stores : List Write
   pub writable : WritableIn z stores
   pub bytes : s′ ≡ writesIn z s stores
+  pub inUse : EachInUse z (memIn z s) (memIn z s′) stores
 
--- By none, by those of an operation, and by some after others.
+-- And what is used stays: nobody is made or freed, and no timer queued or taken off.
+pub record Touched (z : Sizes) (s s′ : List ℕ) : Type 0 where
+  pub spares : Spares z s s′
+  pub same : SameUse z (memIn z s) (memIn z s′)
+
+-- By none.
+same-memory : {z : Sizes} {s s′ : List ℕ} → s′ ≡ s → SameUse z (memIn z s) (memIn z s′)
+same-memory {z} e = record { same = ap (λ (t : List ℕ). used z (memIn z t)) e }
+
 pub touched-same : {z : Sizes} {s s′ : List ℕ} → s′ ≡ s → Touched z s s′
-touched-same e = record { stores = []; writable = tt; bytes = e }
+touched-same e = record { spares = record { stores = []; writable = tt; bytes = e; inUse = none }; same = same-memory e }
 
 pub touched-none : {z : Sizes} {s : List ℕ} → Touched z s s
 touched-none = touched-same refl
 
-pub touched-did
-    : {z : Sizes} {s s′ : List ℕ} {f g : ℕ → ℕ} {ws : List Write} {k : Memory} {a : Machine} → Did z s s′ f g ws k a → Touched z s s′
-touched-did {ws = ws} d = record { stores = ws; writable = d .writable; bytes = d .bytes }
+pub spares-none : {z : Sizes} {s : List ℕ} → Spares z s s
+spares-none = touched-none .spares
 
-pub touched-join : {z : Sizes} {s s₁ s₂ : List ℕ} → Touched z s s₁ → Touched z s₁ s₂ → Touched z s s₂
-touched-join {z} {s} p q =
+-- By those of an operation.
+pub spares-did
+    : {z : Sizes} {s s′ : List ℕ} {f g : ℕ → ℕ} {ws : List Write} {k : Memory} {a : Machine} → Did z s s′ f g ws k a → Spares z s s′
+spares-did {z} {s} {ws = ws} d =
+    record {
+      stores = ws;
+      writable = d .writable;
+      bytes = d .bytes;
+      inUse = subst (λ (m : Memory). EachInUse z (memIn z s) m ws) (sym (d .memory)) (d .inUse);
+    }
+
+pub touched-did
+    : {z : Sizes} {s s′ : List ℕ} {f g : ℕ → ℕ} {ws : List Write} {k : Memory} {a : Machine}
+    → Did z s s′ f g ws k a
+    → SameUse z (memIn z s) k
+    → Touched z s s′
+touched-did {z} {s} d u =
+    record { spares = spares-did d; same = subst (λ (m : Memory). SameUse z (memIn z s) m) (sym (d .memory)) u }
+
+-- By some after others.
+pub spares-join
+    : {z : Sizes} {s s₁ s₂ : List ℕ} → Spares z s s₁ → Spares z s₁ s₂ → Between z (memIn z s) (memIn z s₁) (memIn z s₂) → Spares z s s₂
+spares-join {z} {s} p q t =
     record {
       stores = p .stores ++ q .stores;
       writable = writable-join z (p .stores) (q .stores) (p .writable) (q .writable);
@@ -44,11 +74,29 @@ touched-join {z} {s} p q =
           q .bytes
           ∙ ap (λ (t : List ℕ). writesIn z t (q .stores)) (p .bytes)
           ∙ sym (writes-join fields.layout1 (fields.counts (sizesIn z)) s (p .stores) (q .stores));
+      inUse = in-use-join t (p .inUse) (q .inUse);
     }
 
+pub touched-join : {z : Sizes} {s s₁ s₂ : List ℕ} → Touched z s s₁ → Touched z s₁ s₂ → Touched z s s₂
+touched-join p q =
+    record {
+      spares = spares-join (p .spares) (q .spares) (between-first (fewer-same (p .same)));
+      same = same-join (p .same) (q .same);
+    }
+
+-- Where the first of two leaves what is used, or takes from it; and where the second leaves it.
+pub spares-after : {z : Sizes} {s s₁ s₂ : List ℕ} → Touched z s s₁ → Spares z s₁ s₂ → Spares z s s₂
+spares-after p q = spares-join (p .spares) q (between-first (fewer-same (p .same)))
+
+pub spares-fewer : {z : Sizes} {s s₁ s₂ : List ℕ} → Spares z s s₁ → Fewer z (memIn z s) (memIn z s₁) → Spares z s₁ s₂ → Spares z s s₂
+spares-fewer p u q = spares-join p q (between-first u)
+
+pub spares-before : {z : Sizes} {s s₁ s₂ : List ℕ} → Spares z s s₁ → Touched z s₁ s₂ → Spares z s s₂
+spares-before p q = spares-join p (q .spares) (between-last (q .same))
+
 -- The length stays.
-pub touched-length : {z : Sizes} {s s′ : List ℕ} → Touched z s s′ → length s′ ≡ length s
-touched-length {z} {s} t = ap length (t .bytes) ∙ length-writes fields.layout1 (fields.counts (sizesIn z)) s (t .stores)
+pub spares-length : {z : Sizes} {s s′ : List ℕ} → Spares z s s′ → length s′ ≡ length s
+spares-length {z} {s} t = ap length (t .bytes) ∙ length-writes fields.layout1 (fields.counts (sizesIn z)) s (t .stores)
 
 -- A number put before k leaves the bytes from k on.
 behind-put : (n : ℕ) (s : List ℕ) (at v k : ℕ) → at + n ≤ k → drop k (put n s at v) ≡ drop k s
@@ -75,5 +123,16 @@ behind-writes {z} h s (w ∷ ws) ok =
     behind-writes h (store fields.layout1 (fields.counts (sizesIn z)) s (w .field) (w .index) (w .value)) ws (ok .2) ∙ behind-store h s w (ok .0)
 
 -- Every byte behind the state stays.
-pub touched-behind : {z : Sizes} {s s′ : List ℕ} {n : ℕ} → Holds z s n → Touched z s s′ → drop (totalIn z) s′ ≡ drop (totalIn z) s
-touched-behind {z} {s} h t = ap (drop (totalIn z)) (t .bytes) ∙ behind-writes h s (t .stores) (t .writable)
+pub spares-behind : {z : Sizes} {s s′ : List ℕ} {n : ℕ} → Holds z s n → Spares z s s′ → drop (totalIn z) s′ ≡ drop (totalIn z) s
+spares-behind {z} {s} h t = ap (drop (totalIn z)) (t .bytes) ∙ behind-writes h s (t .stores) (t .writable)
+
+-- And every number that is used neither before nor after.
+pub spares-unused
+    : {z : Sizes} {s s′ : List ℕ} {n : ℕ} → Holds z s n → Spares z s s′ → (f i : ℕ)
+    → used z (memIn z s) f i ≡ 0
+    → used z (memIn z s′) f i ≡ 0
+    → memIn z s′ f i ≡ memIn z s f i
+spares-unused {z} {s} h t f i a b =
+    ap (λ (x : List ℕ). memIn z x f i) (t .bytes)
+    ∙ ap (λ (k : Memory). k f i) (written (ranges (sizesIn z) (h .sizes)) (h .state) (t .stores) (t .writable))
+    ∙ updates-spare (memIn z s) (t .inUse) f i a b

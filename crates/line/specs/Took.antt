@@ -34,7 +34,7 @@ use Rattle.proc.specs.Taken.{Taken, statusIn, given}
 use Rattle.parse.specs.Parsed.{Parsed}
 use Rattle.print.specs.Line.{LineAsks as PrintAsks, Printed}
 use Rattle.print.specs.Put.{Put, put-as}
-use Rattle.line.specs.Line.{LineAsks, StepAsks, isExit, lineMost, LineTook}
+use Rattle.line.specs.Line.{LineAsks, StepAsks, isExit, lineMost, withMessage, LineTook, LineTaken}
 use Rattle.line.specs.Text.{exits, tellsExit, given-tells, given-silent, other-buffer, other-status, silent-told}
 
 -- The status in the bytes of an `exit`.
@@ -50,14 +50,14 @@ exit-case (Name n) e = absurd (false≢true e)
 exit-case Sched e = absurd (false≢true e)
 exit-case Yield e = absurd (false≢true e)
 exit-case (Sleep r c) e = absurd (false≢true e)
-exit-case (Tsleep r c t n now) e = absurd (false≢true e)
+exit-case (Tsleep f) e = absurd (false≢true e)
 exit-case (Wakeup r) e = absurd (false≢true e)
 exit-case (Qlock q) e = absurd (false≢true e)
 exit-case (Canqlock q) e = absurd (false≢true e)
 exit-case (Qunlock q) e = absurd (false≢true e)
 exit-case (Cond c v) e = absurd (false≢true e)
 exit-case (Clock now) e = absurd (false≢true e)
-exit-case (Tadd t k d n r now) e = absurd (false≢true e)
+exit-case (Tadd f) e = absurd (false≢true e)
 exit-case (Tdel t) e = absurd (false≢true e)
 exit-case (Intr now) e = absurd (false≢true e)
 exit-case Due e = absurd (false≢true e)
@@ -78,14 +78,14 @@ other-case (Name n) b j m k e = given-tells m _ k refl
 other-case Sched b j m k e = given-tells m _ k refl
 other-case Yield b j m k e = given-tells m _ k refl
 other-case (Sleep r c) b j m k e = given-tells m _ k refl
-other-case (Tsleep r c t n now) b j m k e = given-tells m _ k refl
+other-case (Tsleep f) b j m k e = given-tells m _ k refl
 other-case (Wakeup r) b j m k e = given-tells m _ k refl
 other-case (Qlock q) b j m k e = given-tells m _ k refl
 other-case (Canqlock q) b j m k e = given-tells m _ k refl
 other-case (Qunlock q) b j m k e = given-tells m _ k refl
 other-case (Cond c v) b j m k e = given-tells m _ k refl
 other-case (Clock now) b j m k e = given-tells m _ k refl
-other-case (Tadd t i d n r now) b j m k e = given-tells m _ k refl
+other-case (Tadd f) b j m k e = given-tells m _ k refl
 other-case (Tdel t) b j m k e = given-tells m _ k refl
 other-case (Intr now) b j m k e = given-tells m _ k refl
 other-case Due b j m k e = given-tells m _ k refl
@@ -136,7 +136,7 @@ line-took
     → means r text text ≡ means r m′ (statusIn (called d b))
     → 138 + length text + 21 * z .processes ≤ lineMost z
     → Printed z s′ n r text out at out′ f
-    → LineTook z s s′ n (decode b) out at out′ f
+    → LineTook z s s′ n (decode b) m m′ out at out′ f
 unfolding stepOf
 line-took {z} {s} {s′} {b} {m} {m′} {out} {at} {n} {d} {r} {text} {out′} {f} a h t e l p =
     let x : called d b ≡ decode b = h .step in
@@ -147,7 +147,9 @@ line-took {z} {s} {s′} {b} {m} {m′} {out} {at} {n} {d} {r} {text} {out′} {
     let g : machineIn z s′ ≡ outcomeOf (machineIn z s) (decode b) 127 .after = t .taken .machine ∙ ap (λ (u : Outcome). u .after) o in
     record {
       well = record { holds = y .holds; good = subst Good (sym g) (good-outcome (machineIn z s) (decode b) 127 (a .well .good)) };
+      spares = y .spares;
       machine = g;
+      message = t .taken .message ∙ ap (λ (u : Outcome). withMessage (u .reply) m) o;
       put =
           put-as (p .put) (ap (λ (u : machine.Reply). printLine n u (machineIn z s′)) (e ∙ t .taken .reply ∙ ap (λ (u : Outcome). u .reply) o)) l;
     }
@@ -184,7 +186,7 @@ module _ {z : Sizes} {s s′ b m m′ out : List ℕ} {at : ℕ} {d : Decoded} {
       → e ≡ isExit (d .call)
       → e ≡ true
       → Printed z s′ n r (statusBytes b) out at out′ f
-      → LineTook z s s′ n (decode b) out at out′ f
+      → LineTook z s s′ n (decode b) m m′ out at out′ f
   unfolding statusIn statusOf
   exit-took a h t q i p =
       let v : isExit (d .call) ≡ true = sym q ∙ i in
@@ -222,7 +224,7 @@ module _ {z : Sizes} {s s′ b m m′ out : List ℕ} {at : ℕ} {d : Decoded} {
       → e ≡ isExit (d .call)
       → e ≡ false
       → Printed z s′ n r m′ out at out′ f
-      → LineTook z s s′ n (decode b) out at out′ f
+      → LineTook z s s′ n (decode b) m m′ out at out′ f
   other-took a h t k q i p =
       let w : tellsExit (means r m′ (statusIn (called d b))) ≡ false =
       ap tellsExit (t .taken .reply) ∙ other-case (d .call) b (d .marked) (machineIn z s) (length m) (sym q ∙ i)
@@ -244,11 +246,12 @@ line-step {b₁ = b₁} {k = k} a p =
     }
 
 pub line-takes
-    : {z : Sizes} {s s′ b b₁ out : List ℕ} {at n k : ℕ} {x : Option Step} {out′ : List ℕ} {r : ℕ}
+    : {z : Sizes} {s s′ b b₁ m m′ out : List ℕ} {at n k : ℕ} {x : Option Step} {out′ : List ℕ} {r : ℕ}
     → Parsed x b b₁ k
-    → LineTook z s s′ n (decode (take k b₁)) out at out′ r
-    → LineTook z s s′ n x out at out′ r
-line-takes {z} {s} {s′} {out = out} {at} {n} {out′ = out′} {r} p t = subst (λ (o : Option Step). LineTook z s s′ n o out at out′ r) (p .step) t
+    → LineTook z s s′ n (decode (take k b₁)) m m′ out at out′ r
+    → LineTaken z s s′ n x b b₁ m m′ out at out′ r
+line-takes {z} {s} {s′} {m = m} {m′} {out} {at} {n} {k} {out′ = out′} {r} p t =
+    record { took = subst (λ (o : Option Step). LineTook z s s′ n o m m′ out at out′ r) (p .step) t; many = k; parsed = p }
 
 pub line-length : {b b₁ : List ℕ} {k : ℕ} {x : Option Step} → Parsed x b b₁ k → k ≡ length (take k b₁)
 line-length {b₁ = b₁} {k = k} p = sym (length-take-le k b₁ (p .fits))

@@ -2,9 +2,16 @@
 use decode::Call;
 use state::Sizes;
 ghost use mathlib.Core.Path.{_≡_};
-ghost use Rattle.line.specs.Line.{LineAsks, StepAsks, isExit, LineTook};
+ghost use Rattle.line.specs.Line.{LineAsks, StepAsks, isExit, lineMost, LineTook, LineTaken};
 ghost use Rattle.machine.specs.Bytes.{decode};
 ghost use Rattle.machine.specs.Parse.{parseLine};
+
+// The most bytes of a line.
+pub fn most(z: Sizes) -> usize
+    ensures { λ r. ⌜ r ≡ lineMost z ⌝ }
+{
+    4266 + 21 * z.processes as usize
+}
 
 // Is it an `exit`?
 fn is_exit(call: Call) -> bool
@@ -45,7 +52,7 @@ pub fn take_step(
     at: usize,
 ) -> usize
     requires { ⌜ StepAsks z (now s) (now b) (now message) (now out) at ⌝ }
-    ensures { λ r. ⌜ LineTook z (now (s .entry)) (now (s .exit)) n (decode (now (b .entry))) (now (out .entry)) at (now (out .exit)) r ⌝ }
+    ensures { λ r. ⌜ LineTook z (now (s .entry)) (now (s .exit)) n (decode (now (b .entry))) (now (message .entry)) (now (message .exit)) (now (out .entry)) at (now (out .exit)) r ⌝ }
 {
     let step = decode::decode(b);
     let marked = step.marked;
@@ -69,7 +76,7 @@ pub fn take_line(
     at: usize,
 ) -> usize
     requires { ⌜ LineAsks z (now s) (now b) (now message) (now out) at ⌝ }
-    ensures { λ r. ⌜ LineTook z (now (s .entry)) (now (s .exit)) n (parseLine (now (line .entry))) (now (out .entry)) at (now (out .exit)) r ⌝ }
+    ensures { λ r. ⌜ LineTaken z (now (s .entry)) (now (s .exit)) n (parseLine (now (line .entry))) (now (b .entry)) (now (b .exit)) (now (message .entry)) (now (message .exit)) (now (out .entry)) at (now (out .exit)) r ⌝ }
 {
     let k = parse::parse(line, b);
     take_step(s, z, n, &b[..k], message, out, at)

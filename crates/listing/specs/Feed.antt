@@ -11,6 +11,7 @@ use Rattle.outcome.specs.Stepped.{Well}
 use Rattle.print.specs.Put.{Put}
 use Rattle.line.specs.Line.{stepMost, lineMost}
 use Rattle.listing.specs.declared.Fed.{Fed}
+use Rattle.listing.specs.Behind.{Behind}
 use Rattle.listing.specs.Lines.{machineAfter}
 use Rattle.listing.specs.Pieces.{piece}
 use Rattle.listing.specs.Held.{heldMost, HeldIs}
@@ -37,9 +38,10 @@ pub record Follows (z : Sizes) (chunk s : List ℕ) (f : Fed) (h lines s′ held
   pub machine : machineIn z s′ ≡ machineAfter (machineIn z s) taken
   pub printed : lines ≡ printFrom (f .n) (machineIn z s) taken
 
--- Bytes of the chunk were read and lines of the listing put into out, from f to f′.
+-- Bytes of the chunk were read and lines of the listing put into out, from f to f′. The bytes behind the state stay.
 pub record Went (z : Sizes) (chunk s held out : List ℕ) (f : Fed) (s′ held′ out′ : List ℕ) (f′ : Fed) : Type 0 where
   pub well : Well z s′
+  pub behind : Behind z s s′
   pub lines : List ℕ
   pub put : Put (length out) out (f .used) lines out′ (f′ .used)
   pub on : f .from ≤ f′ .from

@@ -25,12 +25,13 @@ pub feed-start
 feed-start a = record { went = went-none a; asks = a; long = refl; room = refl; still = λ e. refl }
 
 pub feed-turn
-    : {z : Sizes} {chunk s₀ held₀ out₀ : List ℕ} {f₀ : Fed} {s held b m out : List ℕ} {f : Fed}
+    : {z : Sizes} {chunk s₀ held₀ out₀ : List ℕ} {f₀ : Fed} {s held b m out : List ℕ} {f : Fed} {most : ℕ}
     → Feeding z chunk s₀ held₀ out₀ f₀ s held b m out f
     → f .from < length chunk
-    → lineMost z ≤ length out - f .used
+    → most ≡ lineMost z
+    → most ≤ length out - f .used
     → TurnAsks z s chunk held b m out f
-feed-turn l h k = record { asks = l .asks; more = h; room = omega (arith, l .asks .used) }
+feed-turn l h e k = record { asks = l .asks; more = h; room = omega (arith, l .asks .used) }
 
 pub feed-more
     : {z : Sizes} {chunk s₀ held₀ out₀ : List ℕ} {f₀ : Fed} {s held b m out : List ℕ} {f : Fed} {s′ held′ b′ m′ out′ : List ℕ} {f′ : Fed}
@@ -80,11 +81,12 @@ feed-end {z} {chunk} {s₀} {held₀} {out₀} {f₀} {s} {held} {b} {m} {out} {
 
 -- There is no room for another line.
 pub feed-full
-    : {z : Sizes} {chunk s₀ held₀ out₀ : List ℕ} {f₀ : Fed} {s held b m out : List ℕ} {f : Fed}
+    : {z : Sizes} {chunk s₀ held₀ out₀ : List ℕ} {f₀ : Fed} {s held b m out : List ℕ} {f : Fed} {most : ℕ}
     → Feeding z chunk s₀ held₀ out₀ f₀ s held b m out f
-    → length out - f .used < lineMost z
+    → most ≡ lineMost z
+    → length out - f .used < most
     → FeedEnds z chunk s₀ held₀ out₀ f₀ s held out f
-feed-full l h = feed-end l (λ k. h)
+feed-full l e h = feed-end l (λ k. omega arith)
 
 -- The chunk is used up.
 pub feed-read

@@ -17,8 +17,9 @@ use Rattle.state.specs.declared.Sizes.{Sizes}
 use Rattle.holds.specs.Did.{machineIn}
 use Rattle.outcome.specs.Stepped.{Well}
 use Rattle.print.specs.Put.{Put, put-of, put-none, put-as}
-use Rattle.line.specs.Line.{stepMost, lineMost, LineTook}
+use Rattle.line.specs.Line.{stepMost, lineMost, LineTaken}
 use Rattle.listing.specs.declared.Fed.{Fed}
+use Rattle.listing.specs.Behind.{Behind, behind-none, behind-step}
 use Rattle.listing.specs.Lines.{lines-last, machineAfter}
 use Rattle.listing.specs.Held.{heldMost, HeldIs, Kept, held-parse, up-to}
 
@@ -44,9 +45,10 @@ pub record FinishAsks (z : Sizes) (s held b m out : List ℕ) (f : Fed) : Type 0
 pub finish-within : {z : Sizes} {s held b m out : List ℕ} {f : Fed} → FinishAsks z s held b m out f → f .have ≡ length (take (f .have) held)
 finish-within {held = held} {f = f} a = sym (length-take-le (f .have) held (omega (arith, a .line, a .few)))
 
--- The line begun, where there is one, was the last: it is taken, and its line put.
+-- The line begun, where there is one, was the last: it is taken, and its line put. The bytes behind the state stay.
 pub record Finished (z : Sizes) (s held out : List ℕ) (f : Fed) (s′ out′ : List ℕ) (r : ℕ) : Type 0 where
   pub well : Well z s′
+  pub behind : Behind z s s′
   pub lines : List ℕ
   pub put : Put (lineMost z) out (f .used) lines out′ r
   pub machine : (h : List ℕ) → HeldIs held (f .have) h → machineIn z s′ ≡ machineAfter (machineIn z s) (linesOf h)
@@ -63,6 +65,7 @@ finish-none {z} {s} {held} {b} {m} {out} {f} a e =
     let nothing : (h : List ℕ) → HeldIs held (f .have) h → h ≡ [] = λ h c. c .short (omega arith) ∙ ap (λ (k : ℕ). take k held) e in
     record {
       well = a .well;
+      behind = behind-none;
       lines = [];
       put = put-as (put-none (omega (arith, a .room))) refl (omega arith);
       machine = λ h c. rw (nothing h c) refl;
@@ -71,13 +74,13 @@ finish-none {z} {s} {held} {b} {m} {out} {f} a e =
 
 -- A line is begun.
 pub finish-line
-    : {z : Sizes} {s held b m out : List ℕ} {f : Fed} {s′ out′ : List ℕ} {r : ℕ}
+    : {z : Sizes} {s held b m out : List ℕ} {f : Fed} {s′ b′ m′ out′ : List ℕ} {r : ℕ}
     → FinishAsks z s held b m out f
     → (f .have ≡ 0 → ⊥)
-    → LineTook z s s′ (f .n) (parseLine (take (f .have) held)) out (f .used) out′ r
+    → LineTaken z s s′ (f .n) (parseLine (take (f .have) held)) b b′ m m′ out (f .used) out′ r
     → Finished z s held out f s′ out′ r
 unfolding machineAfter printFrom
-finish-line {z} {s} {held} {b} {m} {out} {f} {s′} {out′} {r} a e t =
+finish-line {z} {s} {held} {b} {m} {out} {f} {s′} {r = r} a e t =
     let x : Option Step = parseLine (take (f .have) held) in
     let o : Option Step → Outcome = λ y. outcomeOf (machineIn z s) y 127 in
     let parsed : (h : List ℕ) → HeldIs held (f .have) h → x ≡ parseLine h = λ h c. held-parse (a .line) (a .few) c in
@@ -89,13 +92,14 @@ finish-line {z} {s} {held} {b} {m} {out} {f} {s′} {out′} {r} a e t =
     (λ k. omega (arith, c .long k)))
     in
     record {
-      well = t .well;
+      well = t .took .well;
+      behind = behind-step (a .well) (t .took .spares);
       lines = printLine (f .n) (o x .reply) (machineIn z s′);
-      put = t .put;
-      machine = λ h c. rw (one h c) (t .machine ∙ ap (λ (y : Option Step). o y .after) (parsed h c));
+      put = t .took .put;
+      machine = λ h c. rw (one h c) (t .took .machine ∙ ap (λ (y : Option Step). o y .after) (parsed h c));
       printed = λ h c.
           rw (one h c)
-          (ap (printLine (f .n) (o x .reply)) (t .machine)
+          (ap (printLine (f .n) (o x .reply)) (t .took .machine)
           ∙ ap (λ (y : Option Step). printLine (f .n) (o y .reply) (o y .after)) (parsed h c)
           ∙ sym (append-nil _));
     }

@@ -11,6 +11,7 @@ use Rattle.state.specs.declared.Sizes.{Sizes}
 use Rattle.holds.specs.Did.{machineIn}
 use Rattle.print.specs.Put.{put-none, put-join}
 use Rattle.listing.specs.declared.Fed.{Fed}
+use Rattle.listing.specs.Behind.{behind-none, behind-join}
 use Rattle.listing.specs.Lines.{machineAfter, after-append, print-append}
 use Rattle.listing.specs.Pieces.{piece, piece-none, piece-join}
 use Rattle.listing.specs.Feed.{FeedAsks, Follows, Went}
@@ -22,6 +23,7 @@ unfolding machineAfter printFrom
 went-none {z} {s} {chunk} {held} {b} {m} {out} {f} a =
     record {
       well = a .well;
+      behind = behind-none;
       lines = [];
       put = put-tight (put-none (a .used));
       on = omega arith;
@@ -79,6 +81,7 @@ pub went-join
 went-join w v =
     record {
       well = v .well;
+      behind = behind-join (w .behind) (v .behind);
       lines = w .lines ++ v .lines;
       put = put-tight (put-join (w .put) (v .put));
       on = omega (arith, w .on, v .on);

@@ -1,4 +1,5 @@
 -- The listing of an input that comes in chunks.
+pub mod Behind
 pub mod Lines
 pub mod Pieces
 pub mod Held

@@ -15,8 +15,9 @@ use Rattle.machine.specs.Listing.{printFrom}
 use Rattle.state.specs.declared.Sizes.{Sizes}
 use Rattle.holds.specs.Did.{machineIn}
 use Rattle.print.specs.Put.{Put, put-none}
-use Rattle.line.specs.Line.{lineMost, LineTook}
+use Rattle.line.specs.Line.{lineMost, LineTook, LineTaken}
 use Rattle.listing.specs.declared.Fed.{Fed}
+use Rattle.listing.specs.Behind.{behind-none, behind-step}
 use Rattle.listing.specs.Lines.{lines-cons, machineAfter}
 use Rattle.listing.specs.Pieces.{piece, piece-join, piece-one, LineEnd}
 use Rattle.listing.specs.Feed.{FeedAsks, Went}
@@ -58,6 +59,7 @@ turn-keep {z} {s} {chunk} {held} {b} {m} {out} {f} {end} {kept} {held′} a l e 
       went =
           record {
             well = a .asks .well;
+            behind = behind-none;
             lines = [];
             put = put-tight (put-none (a .asks .used));
             on = l .before .low;
@@ -80,13 +82,13 @@ turn-keep {z} {s} {chunk} {held} {b} {m} {out} {f} {end} {kept} {held′} a l e 
 
 -- a line is taken, which is parsed as the line begun with the bytes up to its end
 turn-line
-    : {z : Sizes} {s chunk held b m out : List ℕ} {f : Fed} {end : ℕ} {held′ s′ out′ : List ℕ} {x : Option Step} {used : ℕ}
+    : {z : Sizes} {s chunk held b m out : List ℕ} {f : Fed} {end : ℕ} {held′ s′ m′ out′ : List ℕ} {x : Option Step} {used : ℕ}
     → EndedAsks z s chunk held b m out f end
     → ((h : List ℕ) → HeldIs held (f .have) h → x ≡ parseLine (h ++ piece chunk (f .from) end))
-    → LineTook z s s′ (f .n) x out (f .used) out′ used
+    → LineTook z s s′ (f .n) x m m′ out (f .used) out′ used
     → Turned z chunk s held out f s′ held′ out′ (record { from = end + 1; have = 0; n = f .n + 1; used = used })
 unfolding machineAfter printFrom
-turn-line {z} {s} {chunk} {held} {b} {m} {out} {f} {end} {held′} {s′} {out′} {x} {used} a parsed t =
+turn-line {z} {s} {chunk} {held} {b} {m} {out} {f} {end} {held′} {s′} {x = x} a parsed t =
     let l : LineEnd chunk (f .from) end = a .line in
     let p : List ℕ = piece chunk (f .from) end in
     let q : piece chunk (f .from) (end + 1) ≡ p ++ 10 ∷ [] =
@@ -98,6 +100,7 @@ turn-line {z} {s} {chunk} {held} {b} {m} {out} {f} {end} {held′} {s′} {out�
       went =
           record {
             well = t .well;
+            behind = behind-step (a .turn .asks .well) (t .spares);
             lines = printLine (f .n) (o .reply) (machineIn z s′);
             put = put-tight (t .put);
             on = omega (arith, l .before .low);
@@ -127,28 +130,28 @@ turn-line {z} {s} {chunk} {held} {b} {m} {out} {f} {end} {held′} {s′} {out�
 
 -- A line that lies whole in the chunk.
 pub turn-whole
-    : {z : Sizes} {s chunk held b m out : List ℕ} {f : Fed} {end : ℕ} {s′ out′ : List ℕ} {used : ℕ}
+    : {z : Sizes} {s chunk held b m out : List ℕ} {f : Fed} {end : ℕ} {s′ b′ m′ out′ : List ℕ} {used : ℕ}
     → EndedAsks z s chunk held b m out f end
     → f .have ≡ 0
-    → LineTook z s s′ (f .n) (parseLine (piece chunk (f .from) end)) out (f .used) out′ used
+    → LineTaken z s s′ (f .n) (parseLine (piece chunk (f .from) end)) b b′ m m′ out (f .used) out′ used
     → Turned z chunk s held out f s′ held out′ (record { from = end + 1; have = 0; n = f .n + 1; used = used })
 turn-whole {z} {s} {chunk} {held} {b} {m} {out} {f} {end} a none t =
     turn-line a
     (λ h c.
     let nothing : h ≡ [] = c .short (omega arith) ∙ ap (λ (k : ℕ). take k held) none in
     ap (λ (ys : List ℕ). parseLine (ys ++ piece chunk (f .from) end)) (sym nothing))
-    t
+    (t .took)
 
 -- The end of a line begun before.
 pub turn-begun
-    : {z : Sizes} {s chunk held b m out : List ℕ} {f : Fed} {end kept : ℕ} {held′ s′ out′ : List ℕ} {used : ℕ}
+    : {z : Sizes} {s chunk held b m out : List ℕ} {f : Fed} {end kept : ℕ} {held′ s′ b′ m′ out′ : List ℕ} {used : ℕ}
     → EndedAsks z s chunk held b m out f end
     → Kept held (f .have) (piece chunk (f .from) end) held′ kept
-    → LineTook z s s′ (f .n) (parseLine (take kept held′)) out (f .used) out′ used
+    → LineTaken z s s′ (f .n) (parseLine (take kept held′)) b b′ m m′ out (f .used) out′ used
     → Turned z chunk s held out f s′ held′ out′ (record { from = end + 1; have = 0; n = f .n + 1; used = used })
 turn-begun {z} {s} {chunk} {held} {b} {m} {out} {f} {end} {kept} {held′} a k t =
     turn-line a
     (λ h c.
     held-parse (k .long ∙ a .turn .asks .line) (omega (arith, k .ends, a .turn .asks .line))
     (held-more (a .turn .asks .line) (a .turn .asks .few) c (a .line .before .none) k))
-    t
+    (t .took)

@@ -11,6 +11,7 @@ use Rattle.state.specs.Places.{sizesIn}
 use Rattle.state.specs.declared.Sizes.{Sizes}
 use Rattle.holds.specs.Did.{machineIn}
 use Rattle.listing.specs.declared.Fed.{Fed}
+use Rattle.listing.specs.Behind.{Behind, behind-none, behind-join}
 use Rattle.listing.specs.Lines.{print-append}
 use Rattle.listing.specs.Pieces.{piece}
 use Rattle.listing.specs.Held.{HeldIs}
@@ -83,6 +84,17 @@ written-listing {z} {s} {held} {f} {input} {output} r e =
     ∙ ap (λ (ys : List ℕ). output ++ printFrom (f .n) (machineIn z s) (linesOf ys)) (sym (append-nil (l .begun)))
     ∙ sym (l .rest [])
     ∙ ap (listingAt (sizesIn z)) (append-nil input)
+
+-- The state that it began with; what is behind it stays.
+unfoldable pub began : {z : Sizes} {s held : List ℕ} {have n : ℕ} {input output : List ℕ} → Written z s held have n input output → List ℕ
+began (begins {s = s} e) = s
+began (feeds r w) = began r
+
+pub written-behind
+    : {z : Sizes} {s held : List ℕ} {have n : ℕ} {input output : List ℕ} (r : Written z s held have n input output) → Behind z (began r) s
+unfolding began
+written-behind (begins e) = behind-none
+written-behind (feeds r w) = behind-join (written-behind r) (w .behind)
 
 -- In `steps`: from `start` on, and so to the listing.
 pub written-start : {s s′ held : List ℕ} {z : Sizes} → Started s s′ z → Written z s′ held 0 1 [] header

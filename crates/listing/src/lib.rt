@@ -65,7 +65,7 @@ fn keep(held: &mut [u8], have: usize, chunk: &[u8], from: usize, to: usize) -> u
     have + n
 }
 
-// Takes the line that ends at `end`: in place, where none of it is held.
+// Takes the line that ends at `end`: in place, where none of it is held. What is free afterwards is as at `feed`.
 fn take_ended(
     s: &mut [u8],
     z: Sizes,
@@ -103,7 +103,7 @@ fn take_ended(
     }
 }
 
-// Takes the line that begins or goes on at `fed.from`, or holds the rest of the chunk.
+// Takes the line that begins or goes on at `fed.from`, or holds the rest of the chunk. What is free afterwards is as at `feed`.
 fn turn(
     s: &mut [u8],
     z: Sizes,
@@ -132,7 +132,8 @@ fn turn(
 }
 
 // Takes lines from `chunk[fed.from..]` until the chunk is used up or `out` has no room for another. A line that the chunk does not
-// end is held for the next one. `b` and `message` are room for work: what stands there then is free.
+// end is held for the next one. `b` and `message` are room for work: what stands there then is free, and so are the bytes of `held`
+// behind the line begun.
 pub fn feed(
     s: &mut [u8],
     z: Sizes,
@@ -146,10 +147,9 @@ pub fn feed(
     requires { ⌜ FeedAsks z (now s) (now chunk) (now held) (now b) (now message) (now out) fed ⌝ }
     ensures { λ r. ⌜ FeedEnds z (now (chunk .entry)) (now (s .entry)) (now (held .entry)) (now (out .entry)) fed (now (s .exit)) (now (held .exit)) (now (out .exit)) r ⌝ }
 {
-    let most = 4266 + 21 * z.processes as usize;
     let mut at = fed;
     while at.from < chunk.len() {
-        if out.len() - at.used < most {
+        if out.len() - at.used < line::most(z) {
             return at;
         }
         at = turn(s, z, chunk, held, b, message, out, at);
@@ -157,7 +157,8 @@ pub fn feed(
     at
 }
 
-// Takes the line begun, where there is one: the last, without its line end. Where the listing ends in `out`.
+// Takes the line begun, where there is one: the last, without its line end. Where the listing ends in `out`. `b` and `message` are
+// room for work: what stands there then is free.
 pub fn finish(
     s: &mut [u8],
     z: Sizes,

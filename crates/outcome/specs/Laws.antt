@@ -14,7 +14,7 @@ use Rattle.state.specs.declared.Sizes.{Sizes}
 use Rattle.kept.specs.Refused.{refused-by}
 use Rattle.holds.specs.Holds.{Holds}
 use Rattle.holds.specs.Did.{machineIn}
-use Rattle.holds.specs.Touched.{Touched, touched-none}
+use Rattle.holds.specs.Touched.{Spares, spares-none}
 use Rattle.outcome.specs.declared.Reply.{Reply}
 use Rattle.outcome.specs.declared.Reply.the-variants.{Refused}
 use Rattle.outcome.specs.Means.{means, told, statusOf}
@@ -36,7 +36,7 @@ pub stepped-done
     : {z : Sizes} {s s′ : List ℕ} {x : Step} {m : List ℕ} {r : Reply}
     → refusal (machineIn z s) x ≡ none
     → Holds z s′ 0
-    → Touched z s s′
+    → Spares z s s′
     → means r m (statusOf (x .body)) ≡ perform (x .body) (machineIn z s) .reply
     → m ≡ told (perform (x .body) (machineIn z s) .reply)
     → machineIn z s′ ≡ perform (x .body) (machineIn z s) .after
@@ -48,7 +48,7 @@ stepped-done {z} {s} {s′} {x} {m} {r} e h w a t k =
       reply = a ∙ ap (λ (o : Outcome). o .reply) (sym d);
       told = t ∙ ap (λ (o : Outcome). told (o .reply)) (sym d);
       machine = k ∙ ap (λ (o : Outcome). o .after) (sym d);
-      touched = w;
+      spares = w;
       left = λ n q. absurd (none-some (sym e ∙ refused-by (machineIn z s) x n q));
     }
 
@@ -57,7 +57,7 @@ pub stepped-left
     : {z : Sizes} {s s′ : List ℕ} {x : Step} {n : ℕ}
     → refusal (machineIn z s) x ≡ some n
     → Holds z s′ 0
-    → Touched z s s′
+    → Spares z s s′
     → leftBy n (x .body) (machineIn z s) ≡ machineIn z s′
     → leftBytes z s n (x .body) ≡ s′
     → Stepped z s s′ x [] (Refused n)
@@ -69,7 +69,7 @@ stepped-left {z} {s} {s′} {x} {n} e h t l b =
       reply = ap (λ (o : Outcome). o .reply) (sym d);
       told = ap (λ (o : Outcome). told (o .reply)) (sym d);
       machine = sym l ∙ ap (λ (o : Outcome). o .after) (sym d);
-      touched = t;
+      spares = t;
       left = λ k q.
           let w : refused n ≡ refused k = sym (ap (λ (o : Outcome). o .reply) d) ∙ q in
           let y : n ≡ k = cc in
@@ -84,4 +84,4 @@ pub stepped-refused
     → leftBy n (x .body) (machineIn z s) ≡ machineIn z s
     → leftBytes z s n (x .body) ≡ s
     → Stepped z s s x [] (Refused n)
-stepped-refused e h l b = stepped-left e h touched-none l b
+stepped-refused e h l b = stepped-left e h spares-none l b

@@ -20,7 +20,7 @@ use Rattle.state.specs.Places.{memIn}
 use Rattle.state.specs.declared.Sizes.{Sizes}
 use Rattle.holds.specs.Holds.{Holds}
 use Rattle.holds.specs.Did.{machineIn, writesIn}
-use Rattle.holds.specs.Touched.{Touched}
+use Rattle.holds.specs.Touched.{Spares}
 use Rattle.outcome.specs.declared.Reply.{Reply}
 use Rattle.outcome.specs.Means.{means, told, statusOf}
 
@@ -35,11 +35,12 @@ leftBytes z s number b =
     if eqb number 11 && on 2 "rfork" (λ F M. eqb M 3) b then writesIn z s (to fields.nextPid 0 (suc (memIn z s fields.nextPid 0)) ∷ []) else s
 
 -- A step x took the state s to s′ with the reply r and the message m told: answer and machine are the definition's, and the state is one
--- of its kind again; a refusal leaves the bytes. No byte but those of the layout's fields is written: the length, and all behind the state, stay.
+-- of its kind again; a refusal leaves the bytes. No byte is written but of fields that the machine uses before or after: the length, all
+-- behind the state and all that is used neither before nor after stay.
 pub record Stepped (z : Sizes) (s s′ : List ℕ) (x : Step) (m : List ℕ) (r : Reply) : Type 0 where
   pub holds : Holds z s′ 0
   pub reply : means r m (statusOf (x .body)) ≡ stepOf (machineIn z s) x .reply
   pub told : m ≡ told (stepOf (machineIn z s) x .reply)
   pub machine : machineIn z s′ ≡ stepOf (machineIn z s) x .after
-  pub touched : Touched z s s′
+  pub spares : Spares z s s′
   pub left : (n : ℕ) → stepOf (machineIn z s) x .reply ≡ refused n → s′ ≡ leftBytes z s n (x .body)

@@ -2,6 +2,7 @@
 pub mod Nowhere
 pub mod Machines
 pub mod Others
+pub mod Stores
 pub mod Run
 pub mod Rendez
 pub mod Lock

@@ -7,12 +7,14 @@ use Prim.Native.Nat.{ℕ, _+_, _-_, _≤_}
 use native.Mathlib.Omega.{arith}
 use lib.ListN.{length, take, drop}
 use Rattle.machine.specs.Bytes.{decode}
-use Rattle.machine.specs.Step.{Step, Body, start, rfork, name, sched, yield, sleep, tsleep, wakeup, qlock, canqlock, qunlock, cond, clock, tadd, tdel, intr, due, exit, wait}
+use Rattle.machine.specs.Step.{Step, Body, start, rfork, name, sched, yield, sleep, wakeup, qlock, canqlock, qunlock, cond, clock, tdel, intr, due, exit, wait}
 use Rattle.state.specs.declared.Sizes.{Sizes}
+use Rattle.decode.specs.declared.TsleepFields.{TsleepFields}
+use Rattle.decode.specs.declared.TaddFields.{TaddFields}
 use Rattle.decode.specs.declared.Call.{Call}
 use Rattle.decode.specs.declared.Call.the-variants.{None, Start, Rfork, Name, Sched, Yield, Sleep, Tsleep, Wakeup, Qlock, Canqlock, Qunlock, Cond, Clock, Tadd, Tdel, Intr, Due, Exit, Wait}
 use Rattle.decode.specs.declared.Decoded.{Decoded}
-use Rattle.decode.specs.Means.{bodyOf, markedAs, stepOf, Ranged}
+use Rattle.decode.specs.Means.{tsleepOf, taddOf, bodyOf, markedAs, stepOf, Ranged}
 use Rattle.decode.specs.Decodes.{Decodes}
 use Rattle.outcome.specs.declared.Reply.{Reply}
 use Rattle.outcome.specs.declared.Reply.the-variants.{Refused}
@@ -74,9 +76,9 @@ module _ {z : Sizes} {s s′ : List ℕ} {k : Bool} {c : Call} {b m : List ℕ} 
   unfolding bodyOf tells
   call-sleep {R} {C} e t = as-step (sleep R C) (ap (λ (d : Call). bodyOf d b) e) (taken-plain (a .room) refl t)
 
-  pub call-tsleep : {R C S N NOW : ℕ} → c ≡ Tsleep R C S N NOW → Plain z s s′ k (tsleep R C S N NOW) r → CallTook z s s′ k c b m m r
+  pub call-tsleep : {f : TsleepFields} → c ≡ Tsleep f → Plain z s s′ k (tsleepOf f) r → CallTook z s s′ k c b m m r
   unfolding bodyOf tells
-  call-tsleep {R} {C} {S} {N} {NOW} e t = as-step (tsleep R C S N NOW) (ap (λ (d : Call). bodyOf d b) e) (taken-plain (a .room) refl t)
+  call-tsleep {f} e t = as-step (tsleepOf f) (ap (λ (d : Call). bodyOf d b) e) (taken-plain (a .room) refl t)
 
   pub call-wakeup : {R : ℕ} → c ≡ Wakeup R → Plain z s s′ k (wakeup R) r → CallTook z s s′ k c b m m r
   unfolding bodyOf tells
@@ -98,9 +100,9 @@ module _ {z : Sizes} {s s′ : List ℕ} {k : Bool} {c : Call} {b m : List ℕ} 
   unfolding bodyOf tells
   call-cond {C} {v} e t = as-step (cond C v) (ap (λ (d : Call). bodyOf d b) e) (taken-plain (a .room) refl t)
 
-  pub call-tadd : {T KIND S N R NOW : ℕ} → c ≡ Tadd T KIND S N R NOW → Plain z s s′ k (tadd T KIND S N R NOW) r → CallTook z s s′ k c b m m r
+  pub call-tadd : {f : TaddFields} → c ≡ Tadd f → Plain z s s′ k (taddOf f) r → CallTook z s s′ k c b m m r
   unfolding bodyOf tells
-  call-tadd {T} {KIND} {S} {N} {R} {NOW} e t = as-step (tadd T KIND S N R NOW) (ap (λ (d : Call). bodyOf d b) e) (taken-plain (a .room) refl t)
+  call-tadd {f} e t = as-step (taddOf f) (ap (λ (d : Call). bodyOf d b) e) (taken-plain (a .room) refl t)
 
   pub call-tdel : {i : ℕ} → c ≡ Tdel i → Plain z s s′ k (tdel i) r → CallTook z s s′ k c b m m r
   unfolding bodyOf tells

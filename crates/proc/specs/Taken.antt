@@ -18,7 +18,7 @@ use Rattle.machine.specs.StepOf.{stepOf, outcomeOf, refusing}
 use Rattle.state.specs.declared.Sizes.{Sizes}
 use Rattle.holds.specs.Holds.{Holds}
 use Rattle.holds.specs.Did.{machineIn}
-use Rattle.holds.specs.Touched.{Touched, touched-none}
+use Rattle.holds.specs.Touched.{Spares, spares-none}
 use Rattle.outcome.specs.declared.Reply.{Reply}
 use Rattle.outcome.specs.declared.Reply.the-variants.{Pid, Run, RunChild, Done, Asleep, Yes, No, Fired, Exit, Child, Idle, End, Refused}
 use Rattle.outcome.specs.Means.{means, told, statusOf}
@@ -43,13 +43,13 @@ abbrev pub given : Sizes → List ℕ → Option Step → List ℕ → Outcome
 given z s x b = outcomeOf (machineIn z s) x (length b)
 
 -- It took the state s to s′ and the message buffer b to b′, with the reply r: answer and machine are the definition's, the message told
--- is at the front of the message buffer and no other byte of it is written, no byte of the state is written but those of its fields, and a
--- refusal leaves the bytes.
+-- is at the front of the message buffer and no other byte of it is written, no byte of the state is written but of fields that the machine
+-- uses before or after, and a refusal leaves the bytes.
 pub record Taken (z : Sizes) (s s′ : List ℕ) (x : Option Step) (b b′ : List ℕ) (r : Reply) : Type 0 where
   pub holds : Holds z s′ 0
   pub reply : means r b′ (statusIn x) ≡ given z s x b .reply
   pub long : lengthOf r ≡ length (told (given z s x b .reply))
-  pub touched : Touched z s s′
+  pub spares : Spares z s s′
   pub machine : machineIn z s′ ≡ given z s x b .after
   pub message : b′ ≡ told (given z s x b .reply) ++ drop (length (told (given z s x b .reply))) b
   pub left : (n : ℕ) → given z s x b .reply ≡ refused n → s′ ≡ leftIn z s n x
@@ -95,7 +95,7 @@ taken-step {z} {s} {s′} {x} {b} {b′} {m} {r} h t l e =
           ∙ t .reply
           ∙ ap (λ (o : Outcome). o .reply) (sym g);
       long = l ∙ ap (λ (y : List ℕ). length y) d;
-      touched = t .touched;
+      spares = t .spares;
       machine = t .machine ∙ ap (λ (o : Outcome). o .after) (sym g);
       message = e ∙ ap (λ (y : List ℕ). y ++ drop (length y) b) d;
       left = λ n q. t .left n (ap (λ (o : Outcome). o .reply) (sym g) ∙ q);
@@ -144,7 +144,7 @@ nothing-done {z} {s} {x} {b} w g m l =
       holds = w .holds;
       reply = m ∙ ap (λ (o : Outcome). o .reply) (sym g);
       long = ap (λ (o : Outcome). length (told (o .reply))) (sym g);
-      touched = touched-none;
+      spares = spares-none;
       machine = ap (λ (o : Outcome). o .after) (sym g);
       message = ap (λ (o : Outcome). told (o .reply) ++ drop (length (told (o .reply))) b) (sym g);
       left = λ n q.

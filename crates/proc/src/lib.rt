@@ -1,11 +1,14 @@
 // Any one of the nineteen steps, on a state that is known to be well formed.
 use clock::Duration;
 use decode::Call;
+use decode::TaddFields;
+use decode::TsleepFields;
 use outcome::Reply;
 use state::Index;
 use state::Sizes;
 ghost use Rattle.machine.specs.Bytes.{decode};
-ghost use Rattle.machine.specs.Step.{start, rfork, name, sleep, tsleep, wakeup, qlock, canqlock, qunlock, cond, tadd, tdel};
+ghost use Rattle.machine.specs.Step.{start, rfork, name, sleep, wakeup, qlock, canqlock, qunlock, cond, tdel};
+ghost use Rattle.decode.specs.Means.{tsleepOf, taddOf};
 ghost use Rattle.outcome.specs.Stepped.{Well};
 ghost use Rattle.proc.specs.Plain.{Plain};
 ghost use Rattle.proc.specs.Arms.{CallAsks, CallTook};
@@ -68,40 +71,31 @@ fn sleep(s: &mut [u8], z: Sizes, in_interrupt: bool, rendez: u64, condition: u64
 }
 
 // The same, and no longer than a duration.
-fn tsleep(
-    s: &mut [u8],
-    z: Sizes,
-    in_interrupt: bool,
-    rendez: u64,
-    condition: u64,
-    seconds: u64,
-    nanoseconds: u64,
-    reading: u64,
-) -> Reply
+fn tsleep(s: &mut [u8], z: Sizes, in_interrupt: bool, asked: TsleepFields) -> Reply
     requires { ⌜ Well z (now s) ⌝ }
-    ensures { λ a. ⌜ Plain z (now (s .entry)) (now (s .exit)) in_interrupt (tsleep rendez condition seconds nanoseconds reading) a ⌝ }
+    ensures { λ a. ⌜ Plain z (now (s .entry)) (now (s .exit)) in_interrupt (tsleepOf asked) a ⌝ }
 {
-    if rendez >= z.rendez as u64 {
+    if asked.rendez >= z.rendez as u64 {
         return Reply::Refused { number: 2 };
     }
-    if condition > 255 {
+    if asked.condition > 255 {
         return Reply::Refused { number: 2 };
     }
-    if nanoseconds >= SECOND {
+    if asked.nanoseconds >= SECOND {
         return Reply::Refused { number: 2 };
     }
     let wait = Duration {
-        secs: seconds,
-        nanos: nanoseconds as u32,
+        secs: asked.seconds,
+        nanos: asked.nanoseconds as u32,
     };
     proc_timer::tsleep(
         s,
         z,
         in_interrupt,
-        rendez as Index,
-        condition as u8,
+        asked.rendez as Index,
+        asked.condition as u8,
         wait,
-        reading,
+        asked.reading,
     )
 }
 
@@ -164,47 +158,37 @@ fn cond(s: &mut [u8], z: Sizes, in_interrupt: bool, condition: u64, value: u64) 
 }
 
 // Adds a kernel timer.
-fn tadd(
-    s: &mut [u8],
-    z: Sizes,
-    in_interrupt: bool,
-    timer: u64,
-    kind: u64,
-    seconds: u64,
-    nanoseconds: u64,
-    rendez: u64,
-    reading: u64,
-) -> Reply
+fn tadd(s: &mut [u8], z: Sizes, in_interrupt: bool, asked: TaddFields) -> Reply
     requires { ⌜ Well z (now s) ⌝ }
-    ensures { λ a. ⌜ Plain z (now (s .entry)) (now (s .exit)) in_interrupt (tadd timer kind seconds nanoseconds rendez reading) a ⌝ }
+    ensures { λ a. ⌜ Plain z (now (s .entry)) (now (s .exit)) in_interrupt (taddOf asked) a ⌝ }
 {
-    if timer < 1 {
+    if asked.timer < 1 {
         return Reply::Refused { number: 2 };
     }
-    if timer >= z.timers as u64 {
+    if asked.timer >= z.timers as u64 {
         return Reply::Refused { number: 2 };
     }
-    if kind > 1 {
+    if asked.kind > 1 {
         return Reply::Refused { number: 2 };
     }
-    if nanoseconds >= SECOND {
+    if asked.nanoseconds >= SECOND {
         return Reply::Refused { number: 2 };
     }
-    if rendez >= z.rendez as u64 {
+    if asked.rendez >= z.rendez as u64 {
         return Reply::Refused { number: 2 };
     }
     let wait = Duration {
-        secs: seconds,
-        nanos: nanoseconds as u32,
+        secs: asked.seconds,
+        nanos: asked.nanoseconds as u32,
     };
     proc_timer::tadd(
         s,
         z,
-        timer as Index,
-        kind as u8,
+        asked.timer as Index,
+        asked.kind as u8,
         wait,
-        rendez as Index,
-        reading,
+        asked.rendez as Index,
+        asked.reading,
     )
 }
 
@@ -242,46 +226,14 @@ pub fn take_call(
         Call::Sched => proc_sched::sched(s, z, in_interrupt, message),
         Call::Yield => proc_sleep::yield_now(s, z, in_interrupt),
         Call::Sleep { rendez, condition } => sleep(s, z, in_interrupt, rendez, condition),
-        Call::Tsleep {
-            rendez,
-            condition,
-            seconds,
-            nanoseconds,
-            reading,
-        } => tsleep(
-            s,
-            z,
-            in_interrupt,
-            rendez,
-            condition,
-            seconds,
-            nanoseconds,
-            reading,
-        ),
+        Call::Tsleep { asked } => tsleep(s, z, in_interrupt, asked),
         Call::Wakeup { rendez } => wakeup(s, z, in_interrupt, rendez),
         Call::Qlock { lock } => qlock(s, z, in_interrupt, lock),
         Call::Canqlock { lock } => canqlock(s, z, in_interrupt, lock),
         Call::Qunlock { lock } => qunlock(s, z, in_interrupt, lock),
         Call::Cond { condition, value } => cond(s, z, in_interrupt, condition, value),
         Call::Clock { reading } => proc_timer::clock(s, z, reading),
-        Call::Tadd {
-            timer,
-            kind,
-            seconds,
-            nanoseconds,
-            rendez,
-            reading,
-        } => tadd(
-            s,
-            z,
-            in_interrupt,
-            timer,
-            kind,
-            seconds,
-            nanoseconds,
-            rendez,
-            reading,
-        ),
+        Call::Tadd { asked } => tadd(s, z, in_interrupt, asked),
         Call::Tdel { timer } => tdel(s, z, in_interrupt, timer),
         Call::Intr { reading } => proc_intr::intr(s, z, reading),
         Call::Due => proc_wake::due(s, z),

@@ -25,7 +25,7 @@ use Rattle.exact.specs.Parts.{used-of, pid-of}
 use Rattle.holds.specs.Holds.{Holds}
 use Rattle.holds.specs.Whole.{holds-bounds}
 use Rattle.holds.specs.Did.{machineIn}
-use Rattle.holds.specs.Touched.{Touched, touched-join}
+use Rattle.holds.specs.Touched.{Spares, spares-fewer}
 use Rattle.ages.specs.Found.{found-named}
 use Rattle.ages.specs.Parent.{ParentFound}
 use Rattle.outcome.specs.Stepped.{Well}
@@ -47,7 +47,7 @@ pub record Departed (z : Sizes) (s s′ : List ℕ) (i : ℕ) (status : List ℕ
   pub holds : Holds z s′ 0
   pub pid : r ≡ pidOf (machineIn z s) i
   pub machine : machineIn z s′ ≡ tellParent (process (machineIn z s) i) status (without i (machineIn z s)) .machine
-  pub touched : Touched z s s′
+  pub spares : Spares z s s′
 
 module _ {z : Sizes} {s : List ℕ} {i link : ℕ} (a : DepartAsks z s i link) where
   -- What the first calls ask.
@@ -93,7 +93,7 @@ module _ {z : Sizes} {s : List ℕ} {i link : ℕ} (a : DepartAsks z s i link) w
           machine =
               sym (told-nobody (machineIn z s₁) (process M i) status (still ∙ ap linkTo e))
               ∙ ap (λ (x : Machine). tellParent (process M i) status x .machine) (d .machine);
-          touched = d .touched;
+          spares = d .spares;
         }
 
     module _ (ne : link ≡ 0 → ⊥) where
@@ -162,5 +162,5 @@ module _ {z : Sizes} {s : List ℕ} {i link : ℕ} (a : DepartAsks z s i link) w
                 (ap (λ (x : Process). x .name) (used-of (holds-bounds (a .well .holds)) i used) ∙ sym (o .text))
                 here
                 ∙ ap (λ (x : Machine). tellParent (process M i) status x .machine) (d .machine);
-            touched = touched-join (d .touched) (t .touched);
+            spares = spares-fewer (d .spares) (d .fewer) (t .spares);
           }

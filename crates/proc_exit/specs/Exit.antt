@@ -129,7 +129,7 @@ module _ {z : Sizes} {s : List ℕ} {i : ℕ} {status : List ℕ} (a : PexitAsks
         stepped =
             stepped-done
             (allowed-exit (machineIn z s) false status (in-range (machineIn z s) status (a .bytes)) refl runner (sym (n .answer) ∙ e))
-            (d .holds) (d .touched)
+            (d .holds) (d .spares)
             (ap (λ (x : ℕ). answer (Answer.exit x status)) (d .pid) ∙ sym q)
             (ap told (sym q))
             (d .machine ∙ sym (exit-after (machineIn z s) i status runner));

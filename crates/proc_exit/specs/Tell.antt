@@ -1,5 +1,5 @@
 -- The parent is told: it has one child less, and below 128 exits one more, for which its waitr is woken.
-use mathlib.Core.Path.{_≡_, sym, ap, ap₂, subst, _∙_}
+use mathlib.Core.Path.{_≡_, refl, sym, ap, ap₂, subst, _∙_}
 use mathlib.Core.Bool.{Bool}
 use mathlib.Core.List.{List, _∷_}
 use mathlib.Core.Option.{Option, some}
@@ -24,7 +24,8 @@ use Rattle.exact.specs.Parts.{used-of}
 use Rattle.holds.specs.Holds.{Holds}
 use Rattle.holds.specs.Whole.{holds-bounds}
 use Rattle.holds.specs.Did.{machineIn}
-use Rattle.holds.specs.Touched.{Touched, touched-join, touched-did}
+use Rattle.holds.specs.Use.{same-use}
+use Rattle.holds.specs.Touched.{Spares, spares-after, spares-before, spares-did, touched-did}
 use Rattle.free.specs.Highest.{highestFree}
 use Rattle.free.specs.FreeCell.{free-cell}
 use Rattle.dat.specs.Waitr.{OwnAsks, WokeOwn}
@@ -36,7 +37,7 @@ use Rattle.proc_exit.specs.Told.{newExit, withExit, fewer, queued, told-
 pub record QueuedExit (z : Sizes) (s s′ : List ℕ) (j pid : ℕ) (name status : List ℕ) : Type 0 where
   pub holds : (n : ℕ) → Holds z s n → Holds z s′ n
   pub machine : machineIn z s′ ≡ wakeWaitr j (withExit (machineIn z s) j pid name status) .machine
-  pub touched : Touched z s s′
+  pub spares : Spares z s s′
 
 module _ {z : Sizes} {s s₁ : List ℕ} {j pid : ℕ} {name status : List ℕ} (a : AddAsks z s j) (q : AddDone z s s₁ j pid name status) where
   pub queue-wake : OwnAsks z s₁ j
@@ -47,7 +48,7 @@ module _ {z : Sizes} {s s₁ : List ℕ} {j pid : ℕ} {name status : List ℕ} 
       record {
         holds = λ n h. w .holds n (q .did .holds n h);
         machine = w .machine ∙ ap (λ (y : Machine). wakeWaitr j y .machine) (q .did .machine);
-        touched = touched-join (touched-did (q .did)) (w .touched);
+        spares = spares-before (spares-did (q .did)) (w .touched);
       }
 
 -- Record j has a living process with a child, and a cell is free where it has room for an exit.
@@ -63,7 +64,7 @@ pub record ToldParent (z : Sizes) (s s′ : List ℕ) (j pid : ℕ) (name status
   pub machine
       : (child : Process) → child .pid ≡ pid → child .name ≡ name → found (child .parent) (machineIn z s) ≡ some j
       → machineIn z s′ ≡ tellParent child status (machineIn z s) .machine
-  pub touched : Touched z s s′
+  pub spares : Spares z s s′
 
 -- How many exits a living process has.
 pub exits-number : {z : Sizes} {s : List ℕ} {n : ℕ} → Holds z s n → (j : ℕ) → Used (memIn z s) j → length (process (machineIn z s) j .exits) ≡ memIn z s fields.nexits j
@@ -124,7 +125,7 @@ module _ {z : Sizes} {s : List ℕ} {j : ℕ} (a : TellAsks z s j) where
           holds = h₁;
           machine = λ child f g q.
               then ∙ sym (told-full (machineIn z s) child status j q (le-ltb (length (process (machineIn z s) j .exits)) 128 (omega (arith, number, l))));
-          touched = touched-did (p .did);
+          spares = spares-did (p .did);
         }
 
     pub tell-add : k < 128 → AddAsks z s₁ j
@@ -150,5 +151,5 @@ module _ {z : Sizes} {s : List ℕ} {j : ℕ} (a : TellAsks z s j) where
               ∙ ap (λ (y : Machine). wakeWaitr j y .machine) (added pid name status)
               ∙ ap₂ (λ (v : ℕ) (w : List ℕ). wakeWaitr j (withProcess j (queued (machineIn z s) j v w status) (machineIn z s)) .machine) (sym f) (sym g)
               ∙ sym (told-room (machineIn z s) child status j x (lt-ltb (length (process (machineIn z s) j .exits)) 128 (omega (arith, number, l))));
-          touched = touched-join (touched-did (p .did)) (q .touched);
+          spares = spares-after (touched-did (p .did) (same-use refl refl refl refl)) (q .spares);
         }

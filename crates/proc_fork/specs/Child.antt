@@ -1,5 +1,5 @@
 -- The child of the running process: what `fork_off` and `fork_own` ask and ensure.
-use mathlib.Core.Path.{_≡_, sym, ap, ap₂, subst, _∙_}
+use mathlib.Core.Path.{_≡_, refl, sym, ap, ap₂, subst, _∙_}
 use mathlib.Core.Bool.{Bool, true, false}
 use mathlib.Core.List.{List}
 use mathlib.Core.Option.{some}
@@ -22,7 +22,8 @@ use Rattle.exact.specs.Parts.{pid-of, used-of}
 use Rattle.holds.specs.Holds.{Holds}
 use Rattle.holds.specs.Whole.{holds-bounds}
 use Rattle.holds.specs.Did.{machineIn}
-use Rattle.holds.specs.Touched.{Touched, touched-join, touched-did}
+use Rattle.holds.specs.Use.{same-use}
+use Rattle.holds.specs.Touched.{Spares, spares-after, touched-did}
 use Rattle.free.specs.Highest.{highestFree, free-record}
 use Rattle.records.specs.Own.{LivingAsks, living-low}
 use Rattle.records.specs.Names.{IsName, loaded-name}
@@ -48,6 +49,16 @@ pub record ForkAsks (z : Sizes) (s : List ℕ) (i : ℕ) : Type 0 where
   pub free : freeRecord (machineIn z s) ≡ some at
   pub pid : memIn z s fields.nextPid 0 < 18446744073709551615
 
+-- Its record is p.
+pub record AdoptAsks (z : Sizes) (s : List ℕ) (i : ℕ) (p : Proc) : Type 0 where
+  pub fork : ForkAsks z s i
+  pub loaded : Loaded z s i p
+
+-- One more counts as its child, whose record is q.
+pub record Adopted (z : Sizes) (s s′ : List ℕ) (i : ℕ) (p q : Proc) : Type 0 where
+  pub counted : NchildSet z s s′ i (p .nchild + 1)
+  pub child : ChildOf p (p .pid) (i + 1) q
+
 -- The machine with a child of process i: dissociated, or counted as one of the living children.
 abbrev pub childMade : Bool → ℕ → Machine → Machine
 childMade true i m = made (process m i .name) 0 m
@@ -57,7 +68,7 @@ childMade false i m =
 pub record Forked (z : Sizes) (s s′ : List ℕ) (i : ℕ) (off : Bool) : Type 0 where
   pub holds : Holds z s′ 0
   pub machine : machineIn z s′ ≡ childMade off i (machineIn z s)
-  pub touched : Touched z s s′
+  pub spares : Spares z s s′
 
 module _ {z : Sizes} {s : List ℕ} {i : ℕ} (a : ForkAsks z s i) where
   b : InBounds (sizesIn z) (memIn z s)
@@ -120,10 +131,16 @@ module _ {z : Sizes} {s : List ℕ} {i : ℕ} (a : ForkAsks z s i) where
             holds = d .holds;
             machine =
                 d .machine ∙ ap₂ (λ (x : List ℕ) (y : ℕ). made x y (machineIn z s)) (c .text ∙ name-is) (c .parent);
-            touched = d .touched;
+            spares = d .spares;
           }
 
-      module _ {s₁ : List ℕ} (t : NchildSet z s s₁ i (p .nchild + 1)) (c : ChildOf p (p .pid) (i + 1) q) where
+      module _ {s₁ : List ℕ} (o : Adopted z s s₁ i p q) where
+        t : NchildSet z s s₁ i (p .nchild + 1)
+        t = o .counted
+
+        c : ChildOf p (p .pid) (i + 1) q
+        c = o .child
+
         newcomer : Newcomer (memIn z s₁) q (memIn z s₁ fields.nextPid 0)
         newcomer =
             subst (Newcomer (memIn z s₁) q) (sym (ap (λ (x : Memory). x fields.nextPid 0) (t .did .memory)))
@@ -157,8 +174,18 @@ module _ {z : Sizes} {s : List ℕ} {i : ℕ} (a : ForkAsks z s i) where
                   (t .did .machine
                   ∙ ap (λ (n : ℕ). withProcess i (withNchild n (process (machineIn z s) i)) (machineIn z s))
                   (add-one (p .nchild) ∙ ap suc nchild-is));
-              touched = touched-join (touched-did (t .did)) (d .touched);
+              spares = spares-after (touched-did (t .did) (same-use refl refl refl refl)) (d .spares);
             }
+
+-- What the calls of `adopt` ask.
+pub adopt-lives : {z : Sizes} {s : List ℕ} {i : ℕ} {p : Proc} → AdoptAsks z s i p → LivingAsks z s i
+adopt-lives a = fork-lives (a .fork)
+
+pub adopt-room : {z : Sizes} {s : List ℕ} {i : ℕ} {p : Proc} → AdoptAsks z s i p → p .nchild + 1 ≤ 65535
+adopt-room a = fork-room (a .fork) (a .loaded)
+
+pub adopt-link : {z : Sizes} {s : List ℕ} {i : ℕ} {p : Proc} → AdoptAsks z s i p → i + 1 ≤ 65535
+adopt-link a = fork-link (a .fork)
 
 -- The two ways.
 pub fork-off : {z : Sizes} {s s₁ : List ℕ} {i : ℕ} {off : Bool} → off ≡ true → Forked z s s₁ i true → Forked z s s₁ i off

@@ -24,6 +24,7 @@ use Rattle.exact.specs.Bounds.{at-most}
 use Rattle.holds.specs.Holds.{Holds}
 use Rattle.holds.specs.Whole.{holds-bounds}
 use Rattle.holds.specs.Did.{machineIn, writesIn}
+use Rattle.holds.specs.Use.{same-use}
 use Rattle.holds.specs.Touched.{Touched, touched-none, touched-did}
 use Rattle.free.specs.Asks.{RecordsIn, records-in}
 use Rattle.free.specs.FindRecord.{RecordFound}
@@ -60,7 +61,7 @@ module _ {z : Sizes} {s : List ℕ} {M : ℕ} (a : SpendAsks z s) where
         holds = t .did .holds 0 (a .holds);
         bytes = rw (eq-eqb M 3 e) (t .did .bytes);
         machine = rw (eq-eqb M 3 e) (t .did .machine);
-        touched = touched-did (t .did);
+        touched = touched-did (t .did) (same-use refl refl refl refl);
       }
 
   pub spend-none : (M ≡ 3 → ⊥) → Spent z s s M
@@ -130,7 +131,7 @@ module _ {z : Sizes} {s : List ℕ} {F M i : ℕ} (a : MakeAsks z s F M i) where
                   stepped-left
                   (refused-rfork-11 (machineIn z s) false F M (a .range) refl (a .flags) up (a .child) (found-some r ne) (not-last z s e d)
                   (ne-eqb M 0 w))
-                  (t .holds) (t .touched) (sym (t .machine)) (sym (t .bytes));
+                  (t .holds) (t .touched .spares) (sym (t .machine)) (sym (t .bytes));
             }
 
         pub make-fork : ForkAsks z s i
@@ -146,7 +147,7 @@ module _ {z : Sizes} {s : List ℕ} {F M i : ℕ} (a : MakeAsks z s F M i) where
               stepped =
                   stepped-done
                   (allowed-rfork m false F M (a .range) refl (a .flags) up (a .child) (found-some r ne) (not-last z s e d) (eq-eqb M 0 w))
-                  (f .holds) (f .touched)
+                  (f .holds) (f .spares)
                   (ap (λ (n : ℕ). answer (Answer.pid n)) (e ∙ sym (pid-in z s)) ∙ ap (λ (o : Outcome). o .reply) (sym q))
                   (ap (λ (o : Outcome). told (o .reply)) (sym q))
                   (f .machine ∙ ap (λ (o : Outcome). o .after) (sym q));

@@ -15,7 +15,7 @@ use Rattle.state.specs.Fields as fields
 use Rattle.state.specs.Places.{memIn}
 use Rattle.state.specs.declared.Sizes.{Sizes}
 use Rattle.holds.specs.Did.{machineIn}
-use Rattle.holds.specs.Touched.{touched-none}
+use Rattle.holds.specs.Touched.{spares-none}
 use Rattle.outcome.specs.declared.Reply as code
 use Rattle.outcome.specs.declared.Reply.the-variants.{Pid, Refused}
 use Rattle.outcome.specs.Means.{means, told}
@@ -69,7 +69,7 @@ module _ {z : Sizes} {s : List ℕ} {F M : ℕ} (a : RforkAsks z s M) (w : F < 4
                 stepped =
                     stepped-done
                     (allowed-rfork-same (machineIn z s) k F M in-range f (sym (g .is) ∙ e) (somebody-up z s l u ne) (sym (h .bit) ∙ d))
-                    (a .well .holds) touched-none
+                    (a .well .holds) spares-none
                     (rw (sym (h .bit) ∙ d) refl)
                     (rw (sym (h .bit) ∙ d) refl)
                     (rw (sym (h .bit) ∙ d) refl);

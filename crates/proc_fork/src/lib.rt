@@ -9,7 +9,7 @@ ghost use lib.ListN.{length};
 ghost use Rattle.proc_fork.specs.Pad.{Padded};
 ghost use Rattle.proc_fork.specs.Name.{NameStepAsks, NameTook};
 ghost use Rattle.proc_fork.specs.Flags.{Has, Bad};
-ghost use Rattle.proc_fork.specs.Child.{ChildOf, ForkAsks, Forked};
+ghost use Rattle.proc_fork.specs.Child.{ChildOf, ForkAsks, Forked, AdoptAsks, Adopted};
 ghost use Rattle.proc_fork.specs.Make.{SpendAsks, Spent, MakeAsks, RforkTook};
 ghost use Rattle.proc_fork.specs.Rfork.{RforkAsks};
 
@@ -105,16 +105,25 @@ fn fork_off(s: &mut [u8], z: Sizes, i: Index)
     proc_start::begin(s, z, child);
 }
 
+// Makes a process with the name of `p` a child of process `i`, whose record `p` is: its exit goes to `i`, and it counts as one of the
+// living children of `i` until then. Its record.
+fn adopt(s: &mut [u8], z: Sizes, i: Index, p: Proc) -> Proc
+    requires { ⌜ AdoptAsks z (now s) i p ⌝ }
+    ensures { λ r. ⌜ Adopted z (now (s .entry)) (now (s .exit)) i p r ⌝ }
+{
+    let pid = p.pid;
+    let nchild = p.nchild;
+    records::set_nchild(s, z, i, nchild + 1);
+    child_of(p, pid, i + 1)
+}
+
 // The running process `i` has a child that counts as one of its living children.
 fn fork_own(s: &mut [u8], z: Sizes, i: Index)
     requires { ⌜ ForkAsks z (now s) i ⌝ }
     ensures { λ _. ⌜ Forked z (now (s .entry)) (now (s .exit)) i false ⌝ }
 {
     let p = record::load(s, z, i);
-    let pid = p.pid;
-    let nchild = p.nchild;
-    records::set_nchild(s, z, i, nchild + 1);
-    let child = child_of(p, pid, i + 1);
+    let child = adopt(s, z, i, p);
     proc_start::begin(s, z, child);
 }
 
@@ -150,7 +159,7 @@ fn make(s: &mut [u8], z: Sizes, flags: u32, how: u8, i: Index) -> Reply
         return Reply::Refused { number: 12 };
     }
     let pid = state::get64(s, z, state::HEADER, state::NEXT_PID, 0);
-    if pid == 18_446_744_073_709_551_615 {
+    if pid == records::PIDS_END {
         return Reply::Refused { number: 16 };
     }
     if how != 0 {

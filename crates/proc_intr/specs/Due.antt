@@ -17,7 +17,8 @@ use Rattle.exact.specs.Parts.{pid-of}
 use Rattle.holds.specs.Holds.{Holds}
 use Rattle.holds.specs.Whole.{holds-bounds}
 use Rattle.holds.specs.Did.{machineIn}
-use Rattle.holds.specs.Touched.{Touched, touched-join}
+use Rattle.holds.specs.Use.{Fewer}
+use Rattle.holds.specs.Touched.{Spares, spares-fewer}
 use Rattle.timer.specs.Due.{Later, HeadDue, PoppedDue}
 use Rattle.outcome.specs.Stepped.{Well}
 use Rattle.proc_intr.specs.Fire.{timerAt, FireAsks, Fired}
@@ -34,7 +35,8 @@ pub record FiredDue (z : Sizes) (s s′ : List ℕ) (reading : ℕ) (b : Bool) :
   pub bytes : b ≡ false → s′ ≡ s
   pub later : b ≡ false → NoneDue reading (machineIn z s .queued)
   pub fires : b ≡ true → OneFired (machineIn z s) (machineIn z s′) reading
-  pub touched : Touched z s s′
+  pub spares : Spares z s s′
+  pub fewer : Fewer z (memIn z s) (memIn z s′)
 
 not-both : true ≡ false → ⊥
 not-both e = subst T e tt
@@ -53,7 +55,8 @@ due-none {z} {s} {s₁} {reading} {l} a p e =
       bytes = λ _. b;
       later = λ _. none-due reading (machineIn z s .queued) (q .later refl);
       fires = λ x. absurd (not-both (sym x));
-      touched = p .touched;
+      spares = p .spares;
+      fewer = p .fewer;
     }
 
 -- The link of a timer.
@@ -115,5 +118,6 @@ due-fired {z} {s} {s₁} {s₂} {reading} {l} a p ne f =
       bytes = λ x. absurd (not-both x);
       later = λ x. absurd (not-both x);
       fires = λ _. o;
-      touched = touched-join (p .touched) (f .touched);
+      spares = spares-fewer (p .spares) (p .fewer) (f .spares);
+      fewer = record { fewer = λ g i x. f .uses (memIn z s) (p .on (l - 1) (link-suc l ne)) .between g i x (p .fewer .fewer g i x) };
     }

@@ -1,7 +1,7 @@
 -- One firing of a timer that is off the queue.
 use mathlib.Core.Path.{_≡_, ap, _∙_}
 use mathlib.Core.List.{List}
-use Prim.Native.Nat.{ℕ, _≤_}
+use Prim.Native.Nat.{ℕ, _≤_, _<_}
 use native.Mathlib.Omega.{arith}
 use Rattle.machine.specs.Machine.{Queued}
 use Rattle.machine.specs.Timers.{callback, readd}
@@ -11,7 +11,8 @@ use Rattle.state.specs.Places.{memIn}
 use Rattle.state.specs.declared.Sizes.{Sizes}
 use Rattle.holds.specs.Holds.{Holds}
 use Rattle.holds.specs.Did.{machineIn}
-use Rattle.holds.specs.Touched.{Touched, touched-join}
+use Rattle.holds.specs.Use.{Between, fewer-same}
+use Rattle.holds.specs.Touched.{Spares, spares-after}
 use Rattle.timer.specs.Readd.{ReaddAsks, Readded}
 use Rattle.proc_intr.specs.Callback.{CallbackAsks, CalledBack}
 
@@ -29,7 +30,9 @@ pub record FireAsks (z : Sizes) (s : List ℕ) (t : ℕ) : Type 0 where
 pub record Fired (z : Sizes) (s s′ : List ℕ) (t : ℕ) : Type 0 where
   pub holds : (n : ℕ) → Holds z s n → Holds z s′ n
   pub machine : machineIn z s′ ≡ readd (timerAt (memIn z s) t) (callback t (machineIn z s) .machine)
-  pub touched : Touched z s s′
+  pub spares : Spares z s s′
+  -- no more is used than before, and in a memory in which it is queued
+  pub uses : (k : Memory) → 0 < k fields.isQueued t → Between z k (memIn z s′) (memIn z s)
 
 pub fire-readd : {z : Sizes} {s s₁ : List ℕ} {t l : ℕ} → FireAsks z s t → CalledBack z s s₁ t l → ReaddAsks z s₁ t
 fire-readd {t = t} a c =
@@ -48,5 +51,6 @@ fired {z} {s} {s₁} {s₂} {t} a c r =
           r .machine
           ∙ ap (readd (timerAt (memIn z s₁) t)) (c .did .machine)
           ∙ ap (λ (k : ℕ → ℕ). readd (record { timer = t; deadline = k t }) (callback t (machineIn z s) .machine)) (c .did .deadlines);
-      touched = touched-join (c .did .touched) (r .touched);
+      spares = spares-after (c .did .touched) (r .spares);
+      uses = λ k h. record { between = λ f i x y. r .uses k h .between f i x (fewer-same (c .did .touched .same) .fewer f i y) };
     }

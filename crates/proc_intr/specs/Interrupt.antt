@@ -9,9 +9,11 @@ use borrow.Author.Tests.{lt-leb, le-leb}
 use Rattle.machine.specs.Machine.{Machine, Queued}
 use Rattle.machine.specs.Timers.{Firing, fire, fireDue, interrupt}
 use Rattle.machine.specs.TimersLaws.{NoneDue}
+use Rattle.state.specs.Places.{memIn}
 use Rattle.state.specs.declared.Sizes.{Sizes}
 use Rattle.holds.specs.Did.{machineIn}
-use Rattle.holds.specs.Touched.{Touched, touched-none, touched-join}
+use Rattle.holds.specs.Use.{Fewer, fewer-join}
+use Rattle.holds.specs.Touched.{Spares, spares-none, spares-fewer}
 use Rattle.outcome.specs.Stepped.{Well}
 use Rattle.proc_intr.specs.OneFired.{OneFired, one-less}
 use Rattle.proc_intr.specs.Due.{DueAsks, FiredDue}
@@ -22,7 +24,7 @@ pub record Interrupted (z : Sizes) (s s′ : List ℕ) (reading n : ℕ) : Type 
   pub well : Well z s′
   pub machine : machineIn z s′ ≡ interrupt reading (machineIn z s) .machine
   pub count : n ≡ interrupt reading (machineIn z s) .count
-  pub touched : Touched z s s′
+  pub spares : Spares z s s′
 
 -- What firing has done so far, at machine M with n fired.
 abbrev soFar : Machine → ℕ → ℕ → List ℕ → Firing
@@ -38,7 +40,8 @@ pub record Interrupting (z : Sizes) (s₀ s : List ℕ) (reading n : ℕ) : Type
   pub owed : owedIn z s reading ≤ bound
   pub goes : fireDue bound reading (soFar (machineIn z s) n ticks readied) ≡ interrupt reading (machineIn z s₀)
   pub room : n + bound ≤ 18446744073709551615
-  pub touched : Touched z s₀ s
+  pub spares : Spares z s₀ s
+  pub fewer : Fewer z (memIn z s₀) (memIn z s)
 
 -- Nothing has fired.
 pub int-start : {z : Sizes} {s : List ℕ} {reading : ℕ} → DueAsks z s reading → Interrupting z s s reading 0
@@ -52,7 +55,8 @@ int-start {z} {s} {reading} a =
       owed = omega arith;
       goes = refl;
       room = omega (arith, owed-room a);
-      touched = touched-none;
+      spares = spares-none;
+      fewer = record { fewer = λ f i e. e };
     }
 
 -- The definition, where nothing is due and where the head is.
@@ -129,7 +133,8 @@ int-step {z} {s₀} {s} {s′} {reading} {n} i d e =
           ∙ ap (λ (k : ℕ). fireDue k reading f) (sym c)
           ∙ i .goes;
       room = omega (arith, i .room, c);
-      touched = touched-join (i .touched) (d .touched);
+      spares = spares-fewer (i .spares) (i .fewer) (d .spares);
+      fewer = fewer-join (i .fewer) (d .fewer);
     }
 
 pub int-end
@@ -145,5 +150,5 @@ int-end {z} {s₀} {s} {s′} {reading} {n} i d e =
       well = d .again .well;
       machine = ap (machineIn z) (d .bytes e) ∙ ap (λ (y : Firing). y .machine) x;
       count = ap (λ (y : Firing). y .count) x;
-      touched = touched-join (i .touched) (d .touched);
+      spares = spares-fewer (i .spares) (i .fewer) (d .spares);
     }

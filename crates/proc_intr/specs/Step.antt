@@ -25,7 +25,7 @@ use Rattle.state.specs.Abs.{machineOf}
 use Rattle.state.specs.Places.{memIn}
 use Rattle.state.specs.declared.Sizes.{Sizes}
 use Rattle.holds.specs.Did.{machineIn}
-use Rattle.holds.specs.Touched.{Touched, touched-join}
+use Rattle.holds.specs.Touched.{Touched, spares-after}
 use Rattle.clockwork.specs.Stores.{Became}
 use Rattle.clockwork.specs.Clock.{nowStores}
 use Rattle.outcome.specs.declared.Reply as code
@@ -138,7 +138,7 @@ intr-done {z} {s} {s₁} {s₂} {reading} {n} a e w i =
     let t : perform (intr reading) M .reply ≡ answer (Answer.fired n (n / 20000)) = intr-reply M reading f refl ∙ rw c in
     record {
       stepped = λ k.
-          stepped-done (allowed a k) (i .well .holds) (touched-join w (i .touched)) (sym t) (ap told (sym t))
+          stepped-done (allowed a k) (i .well .holds) (spares-after w (i .spares)) (sym t) (ap told (sym t))
           (i .machine ∙ ap (λ (x : Machine). interrupt reading x .machine) e ∙ sym (intr-after M reading));
     }
 

@@ -17,9 +17,6 @@ const TSLEEP: u8 = 2;
 // After how many firings, each time, `interrupt` says that it seems stuck.
 const STUCK_LOOPS: u64 = 20_000;
 
-// The last reading that is accepted, 2^51 − 1.
-const LAST_READING: u64 = 2_251_799_813_685_247;
-
 // Wakes whoever is on the Rendez that the `tsleep` of process `i` names; other calls name none. The link to whom it woke, 0 for none.
 fn twakeup(s: &mut [u8], z: Sizes, i: Index) -> Index
     requires { ⌜ TwakeupAsks z (now s) i ⌝ }
@@ -94,7 +91,7 @@ pub fn intr(s: &mut [u8], z: Sizes, reading: u64) -> Reply
     if reading < last {
         return Reply::Refused { number: 8 };
     }
-    if LAST_READING < reading {
+    if clockwork::MOST_NOW < reading {
         return Reply::Refused { number: 8 };
     }
     clockwork::set_now(s, z, reading);

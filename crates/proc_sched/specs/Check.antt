@@ -102,7 +102,7 @@ pub out-runs
 out-runs {z} {s} {s₁} {s₂} {i} {a} l d o =
     record {
       went =
-          went-from (d .touched)
+          went-from (d .spares) (d .fewer)
           (subst (λ (x : Machine). Went z s₁ s₂ (runs i (Answer.run (pidOf x i)) x) [] a)
           (d .machine ∙ ap (λ (t : ℕ). delete t (machineIn z s)) (sym (own-is z s i))) (o .went));
     }

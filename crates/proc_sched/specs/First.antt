@@ -110,7 +110,7 @@ module _ {z : Sizes} {s : List ℕ} {i : ℕ} {b : List ℕ} (a : FirstAsks z s 
         record {
           message = w .message;
           stepped =
-              stepped-done (allowed-sched (machineIn z s) false refl up (head ∙ sym (g .answer) ∙ e)) (w .went .holds) (w .went .touched)
+              stepped-done (allowed-sched (machineIn z s) false refl up (head ∙ sym (g .answer) ∙ e)) (w .went .holds) (w .went .spares)
               (w .went .reply ∙ ap (λ (y : Outcome). y .reply) o)
               (w .went .told ∙ ap (λ (y : Outcome). told (y .reply)) o)
               (w .went .machine ∙ ap (λ (y : Outcome). y .after) o);

@@ -22,7 +22,8 @@ use Rattle.exact.specs.Parts.{pid-of}
 use Rattle.holds.specs.Holds.{Holds}
 use Rattle.holds.specs.Whole.{holds-bounds}
 use Rattle.holds.specs.Did.{machineIn}
-use Rattle.holds.specs.Touched.{Touched, touched-join, touched-did}
+use Rattle.holds.specs.Use.{same-use, Fewer}
+use Rattle.holds.specs.Touched.{Touched, touched-join, touched-did, Spares, spares-did, spares-fewer}
 use Rattle.places.specs.Nowhere.{Nowhere}
 use Rattle.places.specs.Rendez.{CallsRendez}
 use Rattle.dat.specs.Asleep.{asleepIn}
@@ -58,7 +59,7 @@ dispatched {i = i} l c r =
     record {
       holds = r .did .holds 0 (c .did .holds 0 (l .holds));
       machine = r .did .machine ∙ ap (withUp (some i)) (c .did .machine);
-      touched = touched-join (touched-did (c .did)) (touched-did (r .did));
+      touched = touched-join (touched-did (c .did) (same-use refl refl refl refl)) (touched-did (r .did) (same-use refl refl refl refl));
     }
 
 pub limbo-low : {z : Sizes} {s : List ℕ} {i : ℕ} → Limbo z s i → i < z .processes
@@ -71,19 +72,23 @@ pub record Went (z : Sizes) (s s′ : List ℕ) (o : Outcome) (m : List ℕ) (r 
   pub told : m ≡ told (o .reply)
   pub long : lengthOf r ≡ length m
   pub machine : machineIn z s′ ≡ o .after
-  pub touched : Touched z s s′
+  pub spares : Spares z s s′
 
 -- The same, from before what was written first.
 pub went-from
-    : {z : Sizes} {s s₁ s₂ : List ℕ} {o : Outcome} {m : List ℕ} {r : code.Reply} → Touched z s s₁ → Went z s₁ s₂ o m r → Went z s s₂ o m r
-went-from t w =
+    : {z : Sizes} {s s₁ s₂ : List ℕ} {o : Outcome} {m : List ℕ} {r : code.Reply}
+    → Spares z s s₁
+    → Fewer z (memIn z s) (memIn z s₁)
+    → Went z s₁ s₂ o m r
+    → Went z s s₂ o m r
+went-from t u w =
     record {
       holds = w .holds;
       reply = w .reply;
       told = w .told;
       long = w .long;
       machine = w .machine;
-      touched = touched-join t (w .touched);
+      spares = spares-fewer t u (w .spares);
     }
 
 pub record RunsOn (z : Sizes) (s s′ : List ℕ) (i : ℕ) (r : code.Reply) : Type 0 where
@@ -102,7 +107,7 @@ runs-on {z} {s} {s₁} {i} {p} l e d =
             told = refl;
             long = refl;
             machine = d .machine;
-            touched = d .touched;
+            spares = d .touched .spares;
           };
     }
 
@@ -172,6 +177,6 @@ slept-again {z} {s} {s₁} {i} {r} a p =
             told = refl;
             long = refl;
             machine = p .did .machine ∙ sym (sleeps-same (machineIn z s) i r (up-none (a .limbo)));
-            touched = touched-did (p .did);
+            spares = spares-did (p .did);
           };
     }

@@ -19,7 +19,7 @@ use Rattle.state.specs.Abs.{machineOf}
 use Rattle.state.specs.Places.{memIn}
 use Rattle.state.specs.declared.Sizes.{Sizes}
 use Rattle.holds.specs.Did.{machineIn}
-use Rattle.holds.specs.Touched.{touched-none}
+use Rattle.holds.specs.Touched.{spares-none}
 use Rattle.outcome.specs.Length.{lengthOf}
 use Rattle.outcome.specs.declared.Reply as code
 use Rattle.outcome.specs.declared.Reply.the-variants.{Idle, End, Refused}
@@ -83,7 +83,7 @@ module _ {z : Sizes} {s : List ℕ} {n : ℕ} (a : RestAsks z s) (e : n ≡ memI
       record {
         stepped =
             stepped-done (allowed-sched (machineIn z s) false refl (nobody-up z s 0 (sym (a .idle)) refl) (head-nobody (machineIn z s) nobody))
-            (a .well .holds) touched-none
+            (a .well .holds) spares-none
             (p ∙ ap (λ (y : Outcome). y .reply) (sym o))
             (t ∙ ap (λ (y : Outcome). told (y .reply)) (sym o))
             (ap (λ (y : Outcome). y .after) (sym o));

@@ -1,5 +1,5 @@
 -- The first of the run queue is taken off, gets its quantum and goes on: what the code shows.
-use mathlib.Core.Path.{_≡_, sym, ap, ap₂, subst, _∙_}
+use mathlib.Core.Path.{_≡_, refl, sym, ap, ap₂, subst, _∙_}
 use mathlib.Core.Bool.{false}
 use mathlib.Core.List.{List, [], _∷_, _++_}
 use Prim.Native.Nat.{ℕ, suc, _+_, _-_, _≤_, _<_}
@@ -25,7 +25,8 @@ use Rattle.exact.specs.Parts.{resumeAt, resume-of}
 use Rattle.holds.specs.Holds.{Holds}
 use Rattle.holds.specs.Whole.{holds-bounds}
 use Rattle.holds.specs.Did.{machineIn}
-use Rattle.holds.specs.Touched.{touched-join, touched-did}
+use Rattle.holds.specs.Use.{same-use, fewer-same}
+use Rattle.holds.specs.Touched.{Touched, touched-join, touched-did}
 use Rattle.places.specs.Nowhere.{Nowhere}
 use Rattle.places.specs.Run.{nextMem}
 use Rattle.dat.specs.Run.{NextAsks, NextOne, NextTaken}
@@ -161,6 +162,10 @@ module _ {z : Sizes} {s s₁ : List ℕ} {i l : ℕ} {c : Resume} {b : List ℕ}
     unfolding machineOf
     run-split = one .split
 
+    -- it was taken off and has its quantum
+    begun : Touched z s s₂
+    begun = touched-join (touched-did (one .did) (same-use refl refl refl refl)) (q .touched)
+
     pub turned : {s₃ b₁ : List ℕ} {r : code.Reply} → WentOn z s₂ s₃ i c b b₁ r → Turned z s s₃ b b₁ r
     turned {s₃} {b₁} {r} w =
         record {
@@ -169,6 +174,6 @@ module _ {z : Sizes} {s s₁ : List ℕ} {i l : ℕ} {c : Resume} {b : List ℕ}
               subst (λ (o : Outcome). Went z s s₃ o (w .message) r)
               (ap₂ (λ (x : machine.Resume) (m : Machine). resumes x i m) (a .call) after
               ∙ sym (sched-first (machineIn z s) i (one .rest) run-split))
-              (went-from (touched-join (touched-did (one .did)) (q .touched)) (w .went));
+              (went-from (begun .spares) (fewer-same (begun .same)) (w .went));
           buffer = w .buffer;
         }

@@ -22,7 +22,7 @@ use Rattle.state.specs.declared.Sizes.{Sizes}
 use Rattle.exact.specs.Parts.{used-of, pid-of}
 use Rattle.holds.specs.Whole.{holds-bounds}
 use Rattle.holds.specs.Did.{machineIn}
-use Rattle.holds.specs.Touched.{touched-join, touched-did}
+use Rattle.holds.specs.Touched.{spares-before, spares-did}
 use Rattle.places.specs.Nowhere.{Nowhere}
 use Rattle.dat.specs.Waitr.{WaitAsks, Waited}
 use Rattle.waitq.specs.Push.{headStores}
@@ -100,7 +100,7 @@ finished {z} {s} {s₁} {s₂} {i} {p} {b} {b₁} {g} f e t d =
             told = refl;
             long = t .long;
             machine = y;
-            touched = touched-join (t .touched) (d .touched);
+            spares = spares-before (t .spares) (d .touched);
           };
       buffer = t .buffer;
     }
@@ -188,7 +188,7 @@ wait-slept {z} {s} {s₁} {i} {n} {b} a e d w =
             told = ap told (sym (q .0));
             long = refl;
             machine = w .did .machine ∙ sym (again (machineIn z s) i (up-none (a .limbo)) (waiting a)) ∙ sym (q .1);
-            touched = touched-did (w .did);
+            spares = spares-did (w .did);
           };
       buffer = refl;
     }

@@ -25,6 +25,7 @@ use Rattle.state.specs.declared.Sizes.{Sizes}
 use Rattle.record.specs.declared.Resume.the-variants.{Qlock}
 use Rattle.holds.specs.Holds.{Holds}
 use Rattle.holds.specs.Did.{machineIn}
+use Rattle.holds.specs.Use.{same-use}
 use Rattle.holds.specs.Touched.{Touched, touched-same, touched-join, touched-did}
 use Rattle.places.specs.Lock.{CallsLock}
 use Rattle.dat.specs.Asleep.{asleepIn}
@@ -113,7 +114,8 @@ queued {z} {s} {s₁} {s₂} {s₃} {i} {q} a t d p =
           ∙ queue-on (machineIn z s) i q (machine.inQlock q) (machineIn z s₂)
           (d .did .machine ∙ ap (λ (x : Machine). withProcess i (withResume (machine.inQlock q) (process x i)) x) (t .did .machine))
           (a .held);
-      touched = touched-join (touched-join (touched-did (t .did)) (touched-did (d .did))) (touched-did (p .did));
+      touched =
+          touched-join (touched-join (touched-did (t .did) (same-use refl refl refl refl)) (touched-did (d .did) (same-use refl refl refl refl))) (touched-did (p .did) (same-use refl refl refl refl));
     }
 
 -- qlock
@@ -173,7 +175,7 @@ qlock-done {z} {s} {s₁} {q} {k} {t} a w e =
     record {
       stepped =
           stepped-done (qlock-number k a ∙ rw (h, off k, off (isNone (machineIn z s .up)))) (w .yes e .holds 0 (a .well .holds))
-          (touched-did (w .yes e)) (sym (p .0)) (ap told (sym (p .0)))
+          (touched-did (w .yes e) (same-use refl refl refl refl) .spares) (sym (p .0)) (ap told (sym (p .0)))
           (w .yes e .machine ∙ sym (p .1));
     }
 
@@ -247,7 +249,7 @@ qlock-asleep {z} {s} {s₁} {s₂} {q} {u} {k} {t} a w e f v ne d =
     in
     record {
       stepped =
-          stepped-done (qlock-number k a ∙ rw (h .held, f, o)) (d .holds) (touched-join (touched-same (h .same)) (d .touched)) (sym (p .0))
+          stepped-done (qlock-number k a ∙ rw (h .held, f, o)) (d .holds) (touched-join (touched-same (h .same)) (d .touched) .spares) (sym (p .0))
           (ap told (sym (p .0)))
           (d .machine ∙ ap (λ (x : List ℕ). queueOn (u - 1) q (machine.inQlock q) (machineIn z x)) (h .same) ∙ sym (p .1));
     }

@@ -30,7 +30,8 @@ use Rattle.exact.specs.Parts.{sleeper-of}
 use Rattle.holds.specs.Holds.{Holds}
 use Rattle.holds.specs.Whole.{holds-bounds}
 use Rattle.holds.specs.Did.{machineIn}
-use Rattle.holds.specs.Touched.{Touched, touched-none, touched-join, touched-did}
+use Rattle.holds.specs.Use.{same-use}
+use Rattle.holds.specs.Touched.{Touched, spares-none, touched-join, touched-did}
 use Rattle.places.specs.Nowhere.{Nowhere}
 use Rattle.places.specs.Rendez.{CallsRendez}
 use Rattle.dat.specs.Asleep.{asleepIn}
@@ -118,7 +119,8 @@ fell-asleep {z} {s} {s₁} {s₂} {s₃} {i} {r} {c} a t d p =
           p .did .machine
           ∙ ap (withSleeper r (some i)) (d .did .machine ∙ ap (λ (x : Machine). withProcess i (withResume (meaning c) (process x i)) x) (t .did .machine))
           ∙ sleep-on (machineIn z s) i r (meaning c);
-      touched = touched-join (touched-join (touched-did (t .did)) (touched-did (d .did))) (touched-did (p .did));
+      touched =
+          touched-join (touched-join (touched-did (t .did) (same-use refl refl refl refl)) (touched-did (d .did) (same-use refl refl refl refl))) (touched-did (p .did) (same-use refl refl refl refl));
     }
 
 -- sleep
@@ -168,7 +170,7 @@ sleep-held {z} {s} {r} {c} {k} {t} a l f h e =
     let p : (perform (sleep r c) (machineIn z s) .reply ≡ answer Answer.done) × (perform (sleep r c) (machineIn z s) .after ≡ machineIn z s) =
     sleep-true (machineIn z s) r c x
     in
-    record { stepped = stepped-done n (a .well .holds) touched-none (sym (p .0)) (ap told (sym (p .0))) (sym (p .1)) }
+    record { stepped = stepped-done n (a .well .holds) spares-none (sym (p .0)) (ap told (sym (p .0))) (sym (p .1)) }
 
 -- The condition is false.
 pub record FalseAsks (z : Sizes) (s : List ℕ) (r c : ℕ) : Type 0 where
@@ -263,6 +265,6 @@ sleep-asleep {z} {s} {s₁} {r} {c} {l} {u} a d g v ne w =
     in
     record {
       stepped =
-          stepped-done (sleep-number false (a .asks) (a .low) ∙ rw (y, o)) (w .holds) (w .touched) (sym (p .0)) (ap told (sym (p .0)))
+          stepped-done (sleep-number false (a .asks) (a .low) ∙ rw (y, o)) (w .holds) (w .touched .spares) (sym (p .0)) (ap told (sym (p .0)))
           (w .machine ∙ sym (p .1));
     }

@@ -19,6 +19,7 @@ use Rattle.state.specs.Places.{sizesIn, memIn}
 use Rattle.state.specs.declared.Sizes.{Sizes}
 use Rattle.holds.specs.Holds.{Holds}
 use Rattle.holds.specs.Did.{machineIn}
+use Rattle.holds.specs.Use.{same-use}
 use Rattle.holds.specs.Touched.{touched-join, touched-did}
 use Rattle.dat.specs.Run.{ReadyAsks, Readied}
 use Rattle.dat.specs.Own.{StopAsks, Stopped}
@@ -71,7 +72,7 @@ yield-done {z} {s} {s₁} {s₂} {k} {l} w f e ne t r =
     record {
       stepped =
           stepped-done (refusal-yield (machineIn z s) k ∙ rw (f, u)) (r .did .holds 0 (t .did .holds 0 (w .holds)))
-          (touched-join (touched-did (t .did)) (touched-did (r .did))) refl refl
+          (touched-join (touched-did (t .did) (same-use refl refl refl refl)) (touched-did (r .did) (same-use refl refl refl refl)) .spares) refl refl
           (r .did .machine
           ∙ ap (ready (l - 1)) (t .did .machine)
           ∙ ap (λ (i : ℕ). ready i (withUp none (machineIn z s))) (sym (current-is (machineIn z s) (l - 1) u)));

@@ -1,5 +1,5 @@
 -- A new process, ready: what `begin` asks and ensures.
-use mathlib.Core.Path.{_≡_, sym, ap, _∙_}
+use mathlib.Core.Path.{_≡_, refl, sym, ap, _∙_}
 use mathlib.Core.List.{List}
 use mathlib.Core.Option.{none, some}
 use Prim.Native.Nat.{ℕ, _-_, _≤_, _<_}
@@ -13,7 +13,8 @@ use Rattle.state.specs.declared.Sizes.{Sizes}
 use Rattle.record.specs.declared.Proc.{Proc}
 use Rattle.holds.specs.Holds.{Holds}
 use Rattle.holds.specs.Did.{machineIn}
-use Rattle.holds.specs.Touched.{Touched, touched-join, touched-did}
+use Rattle.holds.specs.Use.{same-use}
+use Rattle.holds.specs.Touched.{Spares, spares-before, spares-did, touched-did}
 use Rattle.dat.specs.Run.{ReadyAsks, Readied}
 use Rattle.records.specs.Names.{IsName}
 use Rattle.records.specs.New.{Newcomer}
@@ -32,7 +33,7 @@ pub record BeginAsks (z : Sizes) (s : List ℕ) (p : Proc) : Type 0 where
 pub record Begun (z : Sizes) (s s′ : List ℕ) (p : Proc) : Type 0 where
   pub holds : Holds z s′ 0
   pub machine : machineIn z s′ ≡ made (p .text) (p .parent) (machineIn z s)
-  pub touched : Touched z s s′
+  pub spares : Spares z s s′
 
 pub begin-alloc : {z : Sizes} {s : List ℕ} {p : Proc} → BeginAsks z s p → AllocAsks z s p
 begin-alloc a = record { owed = 0; holds = a .holds; new = a .new; room = a .pid; link = a .link; text = a .text }
@@ -61,5 +62,5 @@ module _ {z : Sizes} {s s₁ : List ℕ} {p : Proc} {r : ℕ} (a : BeginAsks z s
             d .did .machine
             ∙ ap (ready (r - 1)) (made-one .did .machine)
             ∙ born-made (machineIn z s) (r - 1) p (made-one .found);
-        touched = touched-join (touched-did (made-one .did)) (touched-did (d .did));
+        spares = spares-before (spares-did (made-one .did)) (touched-did (d .did) (same-use refl refl refl refl));
       }

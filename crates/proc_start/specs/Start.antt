@@ -133,6 +133,6 @@ start-done {z} {s} {s₁} {M} {l} {p} {k} {q} a f r ne e d w o b =
       stepped =
           stepped-done
           (allowed-start (machineIn z s) k M (in-range a) f (found-some r ne) (not-last z s e d) (eq-eqb M 0 w))
-          (b .holds) (b .touched) (ap (λ (n : ℕ). answer (Answer.pid n)) (e ∙ sym (pid-in z s))) refl
+          (b .holds) (b .spares) (ap (λ (n : ℕ). answer (Answer.pid n)) (e ∙ sym (pid-in z s))) refl
           (b .machine ∙ ap₂ (λ (x : List ℕ) (y : ℕ). made x y (machineIn z s)) (o .text) (o .parent));
     }

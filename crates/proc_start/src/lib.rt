@@ -6,8 +6,8 @@ use state::Sizes;
 ghost use Rattle.proc_start.specs.Begin.{BeginAsks, Begun};
 ghost use Rattle.proc_start.specs.Start.{Orphan, StartAsks, Started};
 
-// The record of a process with no parent and no name.
-fn orphan() -> Proc
+// A new process's record: no parent, no name.
+fn newproc() -> Proc
     ensures { λ p. ⌜ Orphan p ⌝ }
 {
     let text = [0u8; 28];
@@ -50,7 +50,7 @@ pub fn start(s: &mut [u8], z: Sizes, in_interrupt: bool, how: u8) -> Reply
         return Reply::Refused { number: 12 };
     }
     let pid = state::get64(s, z, state::HEADER, state::NEXT_PID, 0);
-    if pid == 18_446_744_073_709_551_615 {
+    if pid == records::PIDS_END {
         return Reply::Refused { number: 16 };
     }
     if how != 0 {
@@ -58,7 +58,7 @@ pub fn start(s: &mut [u8], z: Sizes, in_interrupt: bool, how: u8) -> Reply
             number: outcome::ENOVMEM,
         };
     }
-    let p = orphan();
+    let p = newproc();
     begin(s, z, p);
     Reply::Pid { pid }
 }

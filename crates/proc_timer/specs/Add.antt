@@ -115,7 +115,7 @@ tadd-done {z} {s} {s₁} {t} {kind} {d} {r} {n} {counts} a x e y =
     let c : CountedAs z s kind d n (Counts counts) = subst (CountedAs z s kind d n) e x in
     record {
       stepped = λ k.
-          stepped-done (tadd-number a c k ∙ c .number) (y .holds 0 (a .well .holds)) (y .touched) refl refl
+          stepped-done (tadd-number a c k ∙ c .number) (y .holds 0 (a .well .holds)) (y .spares) refl refl
           (y .machine
           ∙ ap (λ (v : ℕ). add t (n + v) (withSetting t (settingOf (periodFor kind v) r) (withLastNow n m))) (c .lasts .counts));
     }

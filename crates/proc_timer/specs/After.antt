@@ -10,7 +10,7 @@ use Rattle.state.specs.Places.{memIn}
 use Rattle.state.specs.declared.Sizes.{Sizes}
 use Rattle.holds.specs.Holds.{Holds}
 use Rattle.holds.specs.Did.{machineIn}
-use Rattle.holds.specs.Touched.{Touched, touched-join}
+use Rattle.holds.specs.Touched.{Spares, spares-after}
 use Rattle.timers.specs.Find.{timersIn}
 use Rattle.timer.specs.Only.{Owing}
 use Rattle.timer.specs.Add.{addMem, Added}
@@ -33,7 +33,7 @@ pub record AddedAfter (z : Sizes) (s s′ : List ℕ) (t n counts : ℕ) : Type 
   pub owing : Owing z s′
   pub memory : memIn z s′ ≡ afterMem z (memIn z s) t n counts
   pub machine : machineIn z s′ ≡ add t (n + counts) (withLastNow n (machineIn z s))
-  pub touched : Touched z s s′
+  pub spares : Spares z s s′
 
 -- What the code of `add_after` shows.
 pub added-after
@@ -47,5 +47,5 @@ added-after {z} {s} {s₁} {s₂} {t} {n} {counts} b a =
       owing = a .owing;
       memory = a .memory ∙ ap (λ (m : Memory). addMem z m t (n + counts)) (b .memory);
       machine = a .machine ∙ ap (add t (n + counts)) (b .machine);
-      touched = touched-join (b .touched) (a .touched);
+      spares = spares-after (b .touched) (a .spares);
     }

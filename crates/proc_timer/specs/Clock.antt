@@ -92,6 +92,6 @@ unfolding openPerform openOutcome means told machineOf
 clock-done {z} {s} {s₁} {n} {p} w f b e q a =
     record {
       stepped = λ k.
-          stepped-done (allowed-clock (machineIn z s) k n (clock-range z s n f) (sym (b .answer) ∙ e)) (a .holds 0 (w .holds)) (a .touched) refl refl
+          stepped-done (allowed-clock (machineIn z s) k n (clock-range z s n f) (sym (b .answer) ∙ e)) (a .holds 0 (w .holds)) (a .spares) refl refl
           (a .machine ∙ ap (λ (x : ℕ). add 0 (n + x) (withLastNow n (machineIn z s))) (tick-is w q));
     }

@@ -37,4 +37,4 @@ tdel-allowed {z} {s} {t} a k = allowed-tdel (machineIn z s) k t (rw (le-leb 1 t 
 
 pub tdel-done : {z : Sizes} {s s₁ : List ℕ} {t : ℕ} → KernelAsks z s t → Deleted z s s₁ t → Took z s s₁ (tdel t) Done
 unfolding openPerform openOutcome means told
-tdel-done a d = record { stepped = λ k. stepped-done (tdel-allowed a k) (d .holds 0 (a .well .holds)) (d .touched) refl refl (d .machine) }
+tdel-done a d = record { stepped = λ k. stepped-done (tdel-allowed a k) (d .holds 0 (a .well .holds)) (d .spares) refl refl (d .machine) }

@@ -21,7 +21,7 @@ use Rattle.exact.specs.Parts.{sleeper-of}
 use Rattle.holds.specs.Holds.{Holds}
 use Rattle.holds.specs.Whole.{holds-bounds}
 use Rattle.holds.specs.Did.{machineIn}
-use Rattle.holds.specs.Touched.{Touched}
+use Rattle.holds.specs.Touched.{Spares}
 use Rattle.clockwork.specs.Conditions.{Condition}
 use Rattle.outcome.specs.declared.Reply.{Reply}
 use Rattle.outcome.specs.declared.Reply.the-variants.{Done, Asleep, Refused}
@@ -50,7 +50,7 @@ pub record Came (z : Sizes) (s s′ : List ℕ) (a : Reply) (o : Outcome) : Type
   pub reply : means a [] [] ≡ o .reply
   pub told : [] ≡ told (o .reply)
   pub machine : machineIn z s′ ≡ o .after
-  pub touched : Touched z s s′
+  pub spares : Spares z s s′
 
 -- Refused where the condition is false and another is asleep there, and done otherwise.
 pub record SleptFor (z : Sizes) (s s′ : List ℕ) (i r c n counts : ℕ) (a : Reply) : Type 0 where
@@ -69,7 +69,7 @@ for-done {z} {s} {s₁} {i} {r} {c} {n} {counts} h e w =
     let k : condition (machineIn z s) c ≡ true = sym (h .answer) ∙ e in
     record {
       refused = λ t. absurd (true-false (sym t ∙ taken-true (machineIn z s) r c k));
-      done = λ t. record { holds = w .holds; reply = rw k; told = rw k; machine = rw k (w .machine); touched = w .touched };
+      done = λ t. record { holds = w .holds; reply = rw k; told = rw k; machine = rw k (w .machine); spares = w .spares };
     }
 
 -- A false one, and another asleep there.
@@ -114,5 +114,5 @@ for-asleep {z} {s} {s₁} {i} {r} {c} {n} {counts} {l} a h e d f w =
     let y : taken (machineIn z s) r c ≡ false = taken-free (machineIn z s) r c (sleeper-of (holds-bounds (a .up .holds)) r ∙ ap linkTo (sym d ∙ f)) in
     record {
       refused = λ t. absurd (true-false (sym t ∙ y));
-      done = λ t. record { holds = w .holds; reply = rw k; told = rw k; machine = rw k (w .machine); touched = w .touched };
+      done = λ t. record { holds = w .holds; reply = rw k; told = rw k; machine = rw k (w .machine); spares = w .spares };
     }

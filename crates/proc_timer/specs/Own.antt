@@ -19,7 +19,7 @@ use Rattle.exact.specs.Bounds.{at-most}
 use Rattle.holds.specs.Holds.{Holds}
 use Rattle.holds.specs.Whole.{holds-bounds}
 use Rattle.holds.specs.Did.{machineIn}
-use Rattle.holds.specs.Touched.{Touched, touched-join}
+use Rattle.holds.specs.Touched.{Spares, spares-after, spares-before}
 use Rattle.timer.specs.Only.{Owing}
 use Rattle.timer.specs.Del.{TimerAsks, Deleted}
 use Rattle.clockwork.specs.Stores.{Became}
@@ -44,7 +44,7 @@ own-fits a =
 pub record Returned (z : Sizes) (s s′ : List ℕ) (i n : ℕ) : Type 0 where
   pub holds : Holds z s′ 0
   pub machine : machineIn z s′ ≡ delete (z .timers + i) (withLastNow n (machineIn z s))
-  pub touched : Touched z s s′
+  pub spares : Spares z s s′
 
 pub return-owing : {z : Sizes} {s : List ℕ} {i : ℕ} → UpAsks z s i → Owing z s
 return-owing a = record { owed = 0; holds = a .holds }
@@ -66,7 +66,7 @@ returned {z} {s} {s₁} {s₂} {i} {n} a b d =
     record {
       holds = d .holds 0 (b .holds 0 (a .holds));
       machine = d .machine ∙ ap (delete (z .timers + i)) (b .machine);
-      touched = touched-join (b .touched) (d .touched);
+      spares = spares-after (b .touched) (d .spares);
     }
 
 -- It goes asleep on Rendez r, where nobody is, its timer so many counts after the reading.
@@ -81,7 +81,7 @@ pub record UntilAsks (z : Sizes) (s : List ℕ) (i r n counts : ℕ) : Type 0 wh
 pub record SleepsUntil (z : Sizes) (s s′ : List ℕ) (i r c n counts : ℕ) : Type 0 where
   pub holds : Holds z s′ 0
   pub machine : machineIn z s′ ≡ sleepOn i r (inTsleep r c) (add (z .timers + i) (n + counts) (withLastNow n (machineIn z s)))
-  pub touched : Touched z s s′
+  pub spares : Spares z s s′
 
 pub until-fits : {z : Sizes} {s : List ℕ} {i r n counts : ℕ} → UntilAsks z s i r n counts → Fits w16 (z .timers + i)
 until-fits a = own-fits (a .up)
@@ -123,5 +123,5 @@ sleeps-until {r = r} {c = c} b f =
     record {
       holds = f .holds;
       machine = f .machine ∙ ap (sleepOn _ r (inTsleep r c)) (b .machine);
-      touched = touched-join (b .touched) (f .touched);
+      spares = spares-before (b .spares) (f .touched);
     }

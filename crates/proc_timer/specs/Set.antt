@@ -13,7 +13,7 @@ use Rattle.machine.specs.Timers.{add}
 use Rattle.state.specs.declared.Sizes.{Sizes}
 use Rattle.holds.specs.Holds.{Holds}
 use Rattle.holds.specs.Did.{machineIn}
-use Rattle.holds.specs.Touched.{Touched, touched-join}
+use Rattle.holds.specs.Touched.{Spares, spares-after}
 use Rattle.timer.specs.Only.{Owing}
 use Rattle.clockwork.specs.Stores.{Became}
 use Rattle.clockwork.specs.Settings.{settingStores, settingOf, SettingAsks}
@@ -50,7 +50,7 @@ pub record SetAsks (z : Sizes) (s : List ℕ) (t kind r n counts : ℕ) : Type 0
 pub record SetAfter (z : Sizes) (s s′ : List ℕ) (t kind r n counts : ℕ) : Type 0 where
   pub holds : (owed : ℕ) → Holds z s owed → Holds z s′ owed
   pub machine : machineIn z s′ ≡ add t (n + counts) (withSetting t (settingOf (periodFor kind counts) r) (withLastNow n (machineIn z s)))
-  pub touched : Touched z s s′
+  pub spares : Spares z s s′
 
 pub set-asks
     : {z : Sizes} {s : List ℕ} {t kind r n counts p : ℕ} → SetAsks z s t kind r n counts → Period kind counts p → SettingAsks z s t p r
@@ -83,5 +83,5 @@ set-after {z} {s} {s₁} {s₂} {t} {kind} {r} {n} {counts} {p} y b a =
           ∙ ap (λ (m : Machine). add t (n + counts) (withLastNow n m)) (b .machine)
           ∙ ap (add t (n + counts)) (set-now t p r n (machineIn z s))
           ∙ ap (λ (x : ℕ). add t (n + counts) (withSetting t (settingOf x r) (withLastNow n (machineIn z s)))) (y .answer);
-      touched = touched-join (b .touched) (a .touched);
+      spares = spares-after (b .touched) (a .spares);
     }

@@ -147,6 +147,6 @@ tsleep-for {z} {s} {s₁} {i} {r} {c} {d} {n} {counts} {w} {a} x f v e y = go (t
         let o : Came z s s₁ a (forOf m (z .timers + i) i r c n counts) = y .done g in
         record {
           stepped =
-              stepped-done (number false g) (o .holds) (o .touched) (o .reply ∙ ap (λ (v : Outcome). v .reply) (sym is))
+              stepped-done (number false g) (o .holds) (o .spares) (o .reply ∙ ap (λ (v : Outcome). v .reply) (sym is))
               (o .told ∙ ap (λ (v : Outcome). told (v .reply)) (sym is)) (o .machine ∙ ap (λ (v : Outcome). v .after) (sym is));
         }

@@ -18,9 +18,6 @@ ghost use Rattle.proc_timer.specs.Own.{UpAsks, Returned, UntilAsks, Slee
 ghost use Rattle.proc_timer.specs.For.{ForAsks, SleptFor};
 ghost use Rattle.proc_timer.specs.Tsleep.{TsleepAsks, RunningAsks, Tslept};
 
-// The limit of a reading of the clock, 2^51 - 1.
-const MOST_NOW: u64 = 2_251_799_813_685_247;
-
 // The limit of counts, 2^63 - 1.
 const MOST_COUNTS: u64 = 9_223_372_036_854_775_807;
 
@@ -54,7 +51,7 @@ fn bad_now(s: &[u8], z: Sizes, reading: u64) -> bool
     if reading < last {
         return true;
     }
-    MOST_NOW < reading
+    clockwork::MOST_NOW < reading
 }
 
 // The clock was read: queues timer `t` so many counts after the reading, moving it if it is queued.

@@ -23,6 +23,7 @@ use Rattle.exact.specs.Bounds.{at-most}
 use Rattle.holds.specs.Holds.{Holds}
 use Rattle.holds.specs.Whole.{holds-bounds}
 use Rattle.holds.specs.Did.{machineIn}
+use Rattle.holds.specs.Use.{same-use}
 use Rattle.holds.specs.Touched.{Touched, touched-join, touched-did}
 use Rattle.dat.specs.Asleep.{asleepIn}
 use Rattle.dat.specs.Own.{StopAsks, Stopped, CallAsks, Called}
@@ -102,7 +103,8 @@ went-asleep {z} {s} {s₁} {s₂} {s₃} {i} a t d p =
           ∙ sleep-on (machineIn z s) i machine.inWait (machineIn z s₂)
           (d .did .machine ∙ ap (λ (x : Machine). withProcess i (withResume machine.inWait (process x i)) x) (t .did .machine))
           (omega (arith, table-length (z .processes) (processAt (memIn z s)), low));
-      touched = touched-join (touched-join (touched-did (t .did)) (touched-did (d .did))) (touched-did (p .did));
+      touched =
+          touched-join (touched-join (touched-did (t .did) (same-use refl refl refl refl)) (touched-did (d .did) (same-use refl refl refl refl))) (touched-did (p .did) (same-use refl refl refl refl));
     }
   where
     low : i < z .processes

@@ -32,7 +32,7 @@ use Rattle.exact.specs.Bounds.{InBounds, at-most, inside}
 use Rattle.holds.specs.Holds.{Holds}
 use Rattle.holds.specs.Whole.{holds-bounds}
 use Rattle.holds.specs.Did.{machineIn}
-use Rattle.holds.specs.Touched.{Touched, touched-did}
+use Rattle.holds.specs.Touched.{Spares, spares-did}
 use Rattle.places.specs.Nowhere.{state-used}
 use Rattle.waitq.specs.declared.WaitState.{WaitState}
 use Rattle.waitq.specs.declared.WaitState.the-variants.{InUse, NoChild, Take, Sleep}
@@ -215,7 +215,7 @@ pwait-asleep {z} {s} {s₁} {i} {b} {w} a h e d =
       stepped =
           stepped-done
           (allowed-wait (machineIn z s) false refl (runner a) (sym (waiting-is (p .resume)) ∙ f .0) (no-child (eqb (p .nchild) 0) (isEmpty (p .exits)) (f .2)))
-          (d .holds) (d .touched) (sym (q .0)) (ap told (sym (q .0))) (d .machine ∙ sym (q .1));
+          (d .holds) (d .touched .spares) (sym (q .0)) (ap told (sym (q .0))) (d .machine ∙ sym (q .1));
       long = refl;
       buffer = refl;
     }
@@ -235,7 +235,7 @@ pub record TookChild (z : Sizes) (s s′ : List ℕ) (i : ℕ) (b b′ : List �
   pub pid : g .pid ≡ newest (process (machineIn z s) i) .pid
   pub long : g .length ≡ length (newest (process (machineIn z s) i) .message)
   pub buffer : b′ ≡ newest (process (machineIn z s) i) .message ++ drop (length (newest (process (machineIn z s) i) .message)) b
-  pub touched : Touched z s s′
+  pub spares : Spares z s s′
 
 exits-there : {z : Sizes} {s : List ℕ} {i : ℕ} {b : List ℕ} → PwaitAsks z s i b → isEmpty (process (machineIn z s) i .exits) ≡ false → 0 < memIn z s fields.nexits i
 exits-there {z} {s} {i} a e = go (process (machineIn z s) i .exits) refl
@@ -277,7 +277,7 @@ pwait-took {z} {s} {s₁} {i} {b} {b₁} {w} {g} a h e d =
       stepped =
           stepped-done {m = newest p .message}
           (allowed-wait (machineIn z s) false refl (runner a) (sym (waiting-is (p .resume)) ∙ f .0) (no-exits (eqb (p .nchild) 0) (isEmpty (p .exits)) (f .1)))
-          (d .holds) (d .touched) (m ∙ sym (q .0)) (ap told (sym (q .0))) (d .machine ∙ sym (q .1));
+          (d .holds) (d .spares) (m ∙ sym (q .0)) (ap told (sym (q .0))) (d .machine ∙ sym (q .1));
       long = d .long;
       buffer = d .buffer;
     }
@@ -331,5 +331,5 @@ took-child {z} {s} {s₁} {i} {l} {p} {n} {r} {b} {b₁} a e d c t =
           c .bytes
           ∙ ap (λ (k : ℕ). messageIn z s (l - 1) ++ drop k b) (sym len)
           ∙ ap (λ (o : Exit). o .message ++ drop (length (o .message)) b) (sym x);
-      touched = touched-did (t .did);
+      spares = spares-did (t .did);
     }

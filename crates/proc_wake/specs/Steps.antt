@@ -26,7 +26,8 @@ use Rattle.exact.specs.Parts.{lock-of}
 use Rattle.holds.specs.Holds.{Holds}
 use Rattle.holds.specs.Whole.{holds-bounds}
 use Rattle.holds.specs.Did.{machineIn}
-use Rattle.holds.specs.Touched.{touched-none, touched-same, touched-did}
+use Rattle.holds.specs.Use.{same-use}
+use Rattle.holds.specs.Touched.{spares-none, touched-same, touched-did}
 use Rattle.dat.specs.Rendez.{WakeAsks, Woke, pidsOf}
 use Rattle.qlock.specs.Queue.{LockAsks}
 use Rattle.qlock.specs.Hold.{Tried, HandAsks, Handed, Given}
@@ -84,7 +85,7 @@ wakeup-no {z} {s} {s₁} {r} {l} a w e =
     in
     record {
       stepped = λ k.
-          stepped-done (wakeup-allowed a k) (w .holds 0 (a .well .holds)) (w .touched) (sym t) (ap told (sym t))
+          stepped-done (wakeup-allowed a k) (w .holds 0 (a .well .holds)) (w .touched .spares) (sym t) (ap told (sym t))
           (w .machine ∙ sym (wakeup-after (machineIn z s) r));
     }
 
@@ -97,7 +98,7 @@ wakeup-yes {z} {s} {s₁} {r} {l} a w ne =
     in
     record {
       stepped = λ k.
-          stepped-done (wakeup-allowed a k) (w .holds 0 (a .well .holds)) (w .touched) (sym t) (ap told (sym t))
+          stepped-done (wakeup-allowed a k) (w .holds 0 (a .well .holds)) (w .touched .spares) (sym t) (ap told (sym t))
           (w .machine ∙ sym (wakeup-after (machineIn z s) r));
     }
 
@@ -135,7 +136,7 @@ canqlock-yes {z} {s} {s₁} {q} {t} a w e =
     in
     record {
       stepped = λ k.
-          stepped-done (canqlock-allowed a k) (w .yes e .holds 0 (a .well .holds)) (touched-did (w .yes e)) (sym (f .0)) (ap told (sym (f .0)))
+          stepped-done (canqlock-allowed a k) (w .yes e .holds 0 (a .well .holds)) (touched-did (w .yes e) (same-use refl refl refl refl) .spares) (sym (f .0)) (ap told (sym (f .0)))
           (w .yes e .machine ∙ sym (f .1));
     }
 
@@ -148,7 +149,7 @@ canqlock-no {z} {s} {s₁} {q} {t} a w e =
     let b : s₁ ≡ s = w .no e in
     record {
       stepped = λ k.
-          stepped-done (canqlock-allowed a k) (subst (λ (x : List ℕ). Holds z x 0) (sym b) (a .well .holds)) (touched-same b) (sym (f .0))
+          stepped-done (canqlock-allowed a k) (subst (λ (x : List ℕ). Holds z x 0) (sym b) (a .well .holds)) (touched-same b .spares) (sym (f .0))
           (ap told (sym (f .0)))
           (ap (machineIn z) b ∙ sym (f .1));
     }
@@ -185,7 +186,7 @@ qunlock-no {z} {s} {s₁} {q} a w e =
 handed : {z : Sizes} {s s₁ : List ℕ} {q l : ℕ} → LockAsked z s q → lock (machineIn z s) q .held ≡ true → Handed z s s₁ q l → Took z s s₁ (qunlock q) Done
 unfolding openPerform openOutcome means told
 handed {z} {s} {s₁} {q} a e h =
-    record { stepped = λ k. stepped-done (qunlock-number a k ∙ rw e) (h .holds 0 (a .well .holds)) (h .touched) refl refl (h .machine) }
+    record { stepped = λ k. stepped-done (qunlock-number a k ∙ rw e) (h .holds 0 (a .well .holds)) (h .touched .spares) refl refl (h .machine) }
 
 pub qunlock-free : {z : Sizes} {s s₁ : List ℕ} {q : ℕ} {u : Unlock} → LockAsked z s q → Given z s s₁ q u → u ≡ Free → Took z s s₁ (qunlock q) Done
 qunlock-free {z} {s} {s₁} {q} a w e =
@@ -224,7 +225,7 @@ unfolding openPerform openOutcome means told
 cond-done {z} {s} {s₁} {c} {v} w l b =
     record {
       stepped = λ k.
-          stepped-done (cond-allowed (machineIn z s) c v l k) (b .holds 0 (w .holds)) (b .touched) refl refl
+          stepped-done (cond-allowed (machineIn z s) c v l k) (b .holds 0 (w .holds)) (b .touched .spares) refl refl
           (b .machine ∙ ap (λ (x : Bool). withCondition c x (machineIn z s)) (sym (bit-one v)));
     }
 
@@ -239,7 +240,7 @@ due-yes {z} {s} {t} w d e =
     let f : (perform due (machineIn z s) .reply ≡ answer (Answer.yesNo true)) × (perform due (machineIn z s) .after ≡ machineIn z s) =
     due-reply (machineIn z s) true (sym e ∙ d .answer)
     in
-    record { stepped = λ k. stepped-done (refusal-due (machineIn z s) k) (w .holds) touched-none (sym (f .0)) (ap told (sym (f .0))) (sym (f .1)) }
+    record { stepped = λ k. stepped-done (refusal-due (machineIn z s) k) (w .holds) spares-none (sym (f .0)) (ap told (sym (f .0))) (sym (f .1)) }
 
 pub due-no : {z : Sizes} {s : List ℕ} {t : Bool} → Well z s → PreemptDue z s t → t ≡ false → Took z s s due No
 unfolding means told
@@ -247,4 +248,4 @@ due-no {z} {s} {t} w d e =
     let f : (perform due (machineIn z s) .reply ≡ answer (Answer.yesNo false)) × (perform due (machineIn z s) .after ≡ machineIn z s) =
     due-reply (machineIn z s) false (sym e ∙ d .answer)
     in
-    record { stepped = λ k. stepped-done (refusal-due (machineIn z s) k) (w .holds) touched-none (sym (f .0)) (ap told (sym (f .0))) (sym (f .1)) }
+    record { stepped = λ k. stepped-done (refusal-due (machineIn z s) k) (w .holds) spares-none (sym (f .0)) (ap told (sym (f .0))) (sym (f .1)) }

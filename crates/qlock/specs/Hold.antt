@@ -20,6 +20,7 @@ use Rattle.exact.specs.Bounds.{InBounds, at-most}
 use Rattle.exact.specs.Parts.{lock-of, pid-of}
 use Rattle.holds.specs.Holds.{Holds}
 use Rattle.holds.specs.Whole.{holds-bounds}
+use Rattle.holds.specs.Use.{usedBy, EachInUse, before, same-use}
 use Rattle.holds.specs.Did.{Did, did, did-join, did-as, machineIn, same, more}
 use Rattle.holds.specs.Touched.{Touched, touched-did}
 use Rattle.places.specs.Others.{others, keeps-with}
@@ -38,12 +39,14 @@ held-did
     → v ≤ 1
     → PutIn z s s₁ (slot 4 0 2) q v
     → Did z s s₁ same same (to fields.held q v ∷ []) (heldMem (memIn z s) q v) (withLock q (lockWith v (waiterList (sizesIn z) (memIn z s) q)) (machineIn z s))
+unfolding usedBy
 held-did {z} {s} {s₁} {q} {v} a l p =
     did (to fields.held q v ∷ []) (heldMem (memIn z s) q v) (withLock q (lockWith v (waiterList (sizesIn z) (memIn z s) q)) (machineIn z s)) (a .holds) (p .bytes)
     (record { listed = omega arith; index = a .index }, l, tt)
     refl
     (λ n k. keeps-with (others k) (held-placed (holds-bounds (a .holds)) (k .placed) (a .index) v))
     (held-machine (a .holds .keeps .placed) q v)
+    (EachInUse.more (before (omega arith)) EachInUse.none)
 
 -- `canqlock` takes it only if free, and says whether it did.
 pub record Tried (z : Sizes) (s s′ : List ℕ) (q : ℕ) (t : Bool) : Type 0 where
@@ -142,7 +145,7 @@ handed-none {z} {s} {s₁} {s₂} {q} {l} a d e p =
       machine = y .machine;
       readied = sym (h .1);
       range = omega arith;
-      touched = touched-did y;
+      touched = touched-did y (same-use refl refl refl refl);
     }
 
 pub hand-awaken : {z : Sizes} {s s₁ : List ℕ} {q l : ℕ} → HandAsks z s q → Dequeued z s s₁ q l → (l ≡ 0 → ⊥) → AwakenAsks z s₁ (l - 1)
@@ -162,7 +165,7 @@ handed-one {z} {s} {s₁} {s₂} {q} {l} a d ne w =
     in
     let t : isSet (m fields.held q) ≡ true = ap not (ne-eqb (m fields.held q) 0 (λ e. none-some (sym (o .split) ∙ a .held e))) in
     let y : Did z s s₂ same same (dequeueStores m q i ++ awakenStores (dequeueMem m q i) i) (awakenMem (dequeueMem m q i) i) (handOver q (machineIn z s) .machine) =
-    did-as (did-join (o .did) (w .did))
+    did-as (did-join (o .did) (w .did) (same-use refl refl refl refl))
     (ap (λ (x : Memory). dequeueStores m q i ++ awakenStores x i) (o .did .memory))
     (ap (λ (x : Memory). awakenMem x i) (o .did .memory))
     (ap (ready i) (o .did .machine ∙ ap (λ (x : Bool). withLock q (record { held = x; waiters = o .rest }) (machineIn z s)) t) ∙ sym (h .0))
@@ -178,7 +181,7 @@ handed-one {z} {s} {s₁} {s₂} {q} {l} a d ne w =
       machine = y .machine;
       readied = ap (pidsOf m) e ∙ ap (λ (x : ℕ). x ∷ []) (sym (pid-of (holds-bounds (a .holds)) i)) ∙ sym (h .1);
       range = d .range;
-      touched = touched-did y;
+      touched = touched-did y (same-use refl refl refl refl);
     }
   where
     none-some : {x : ℕ} {xs : List ℕ} → x ∷ xs ≡ [] → ⊥

@@ -25,11 +25,13 @@ use Rattle.queue.specs.Push.{pushWrites, push-writable, PushAsks, PushDone}
 use Rattle.queue.specs.Pop.{popWrites, popHead, PopAsks, PopDone}
 use Rattle.holds.specs.Holds.{Holds}
 use Rattle.holds.specs.Whole.{holds-bounds}
+use Rattle.holds.specs.Use.{usedBy, EachInUse, before, in-use-runs, same-use}
 use Rattle.holds.specs.Did.{Did, did, did-join, did-as, machineIn, same, more, WritableIn, writesIn, wrote-1, wrote-2, writable-join}
 use Rattle.places.specs.Nowhere.{Nowhere}
 use Rattle.places.specs.Others.{others, keeps-with}
 use Rattle.places.specs.Machines.{lockWith}
 use Rattle.places.specs.Own.{asleepMem, asleep-nowhere}
+use Rattle.places.specs.Stores.{lock-last-used, push-in-use}
 use Rattle.places.specs.Lock.{CallsLock, enqueueMem, enqueue-machine, enqueue-placed, dequeueMem, dequeue-machine, dequeue-placed, dequeue-nowhere}
 use Rattle.dat.specs.Asleep.{asleepIn, MoreAsks, More}
 
@@ -152,6 +154,7 @@ pub enqueued
     → Wrote z s₂ s₃ (lockStores q t)
     → PutIn z s₃ s₄ (slot 1 37 1) i 3
     → Enqueued z s s₄ q i
+unfolding usedBy
 enqueued {z} {s} {s₁} {s₂} {s₃} {s₄} {q} {i} {r} {t} a o l d w p =
     let m : Memory = memIn z s₁ in
     let c : Ready z s s₁ q i = counted a o in
@@ -182,13 +185,15 @@ enqueued {z} {s} {s₁} {s₂} {s₃} {s₄} {q} {i} {r} {t} a o l d w p =
     (last-updates m q (m fields.lockTail q) i refl)
     (λ n k. keeps-with (others k) (enqueue-placed b (k .placed) (c .nowhere) (c .call) low (a .index)))
     (enqueue-machine b (c .holds .keeps .placed) (c .nowhere) (c .call) low (a .index))
+    (in-use-runs (push-in-use (m fields.lockTail q) i (c .nowhere .used) (lock-last-used (c .holds .keeps .placed) q))
+    (EachInUse.more (before (omega arith)) (EachInUse.more (before (omega arith)) (EachInUse.more (before (c .nowhere .used)) EachInUse.none))))
     in
     let locked : v ≡ record { held = lock (machineIn z s) q .held; waiters = lock (machineIn z s) q .waiters ++ i ∷ [] } =
     ap (λ (x : Lock). record { held = x .held; waiters = x .waiters ++ i ∷ [] }) (sym (lock-of b q) ∙ ap (λ (x : Machine). lock x q) (o .did .machine))
     in
     record {
       did =
-          did-as (did-join (o .did) g)
+          did-as (did-join (o .did) g (same-use refl refl refl refl))
           (ap (λ (k : Memory). to fields.asleepCount 0 (suc (asleepIn (memIn z s))) ∷ lastStores k q i) (c .memory))
           (ap (λ (k : Memory). enqueueMem k q i) (c .memory))
           (ap₂ (λ (x : Lock) (y : Machine). withLock q x y) locked (o .did .machine));
@@ -251,6 +256,7 @@ pub dequeued-one
     → (t .link ≡ 0 → ⊥)
     → Wrote z s₁ s₂ (lockStores q (t .queue))
     → Dequeued z s s₂ q (t .link)
+unfolding usedBy
 dequeued-one {z} {s} {s₁} {s₂} {q} {r} {t} a l d ne w =
     record { nobody = λ e. absurd (ne e); somebody = λ _. go (waiterList (sizesIn z) m q) refl; range = d .link; long = w .long }
   where
@@ -306,6 +312,7 @@ dequeued-one {z} {s} {s₁} {s₂} {q} {r} {t} a l d ne w =
             (rw (newHead, newTail) at (all .bytes)) ok refl
             (λ n k. keeps-with (others k) (dequeue-placed b (k .placed) q xs e))
             (dequeue-machine b (a .holds .keeps .placed) q xs e)
+            (EachInUse.more (before (dequeue-nowhere b (a .holds .keeps .placed) q xs e .used)) (EachInUse.more (before (omega arith)) (EachInUse.more (before (omega arith)) EachInUse.none)))
 
         one : DequeuedOne z s s₂ q i
         one =

@@ -17,14 +17,15 @@ use Rattle.state.specs.Places.{sizesIn, memIn}
 use Rattle.state.specs.declared.Sizes.{Sizes}
 use Rattle.record.specs.declared.Proc.{Proc}
 use Rattle.holds.specs.Holds.{Holds}
+use Rattle.holds.specs.Use.{same-use}
 use Rattle.holds.specs.Did.{Did, did-join, did-as, machineIn, same}
 use Rattle.places.specs.Nowhere.{Nowhere}
 use Rattle.free.specs.Asks.{RecordsIn, records-in}
 use Rattle.free.specs.FindRecord.{RecordFound}
 use Rattle.records.specs.Names.{IsName}
 use Rattle.records.specs.New.{newProcess, Newcomer, newcomer-same}
-use Rattle.records.specs.Adopt.{adoptMem}
-use Rattle.records.specs.AdoptCode.{adoptStores, AdoptAsks, Adopted}
+use Rattle.records.specs.Occupy.{occupyStores, occupyMem}
+use Rattle.records.specs.OccupyCode.{OccupyAsks, Occupied}
 use Rattle.records.specs.Pid.{pidStores, pidMem, NextPidAsks, PidTaken}
 
 -- The machine with a new process, that takes the next pid, in record i.
@@ -38,10 +39,10 @@ born-made m i p e = ap (λ (o : ℕ). ready o (born o p m)) (ap (λ o. Option·g
 
 -- The stores: the next pid, then the record.
 abbrev pub allocStores : ℕ → Memory → ℕ → Proc → List Write
-allocStores n m i p = pidStores m ++ adoptStores n (pidMem m) i p (m fields.nextPid 0)
+allocStores n m i p = pidStores m ++ occupyStores n (pidMem m) i p (m fields.nextPid 0)
 
 abbrev pub allocMem : ℕ → Memory → ℕ → Proc → Memory
-allocMem n m i p = adoptMem n (pidMem m) i p (m fields.nextPid 0)
+allocMem n m i p = occupyMem n (pidMem m) i p (m fields.nextPid 0)
 
 -- The next pid is a newcomer's, and can rise. The parent, the link to it and the name are those of p.
 pub record AllocAsks (z : Sizes) (s : List ℕ) (p : Proc) : Type 0 where
@@ -93,8 +94,8 @@ module _ {z : Sizes} {s : List ℕ} {p : Proc} (a : AllocAsks z s p) where
           rw (t .pid)
           (newcomer-same (ap (λ (x : Memory). x fields.pid) (t .did .memory)) (ap (λ (x : Memory). x fields.parent) (t .did .memory)) (a .new))
 
-      pub alloc-adopt : AdoptAsks z s₁ (r - 1) p v
-      alloc-adopt =
+      pub alloc-occupy : OccupyAsks z s₁ (r - 1) p v
+      alloc-occupy =
           record {
             owed = a .owed;
             holds = t .did .holds (a .owed) (a .holds);
@@ -107,7 +108,7 @@ module _ {z : Sizes} {s : List ℕ} {p : Proc} (a : AllocAsks z s p) where
           }
 
       -- What the code shows where one is.
-      pub alloc-one : {s₂ : List ℕ} → Adopted z s₁ s₂ (r - 1) p v → Allocated z s s₂ p r
+      pub alloc-one : {s₂ : List ℕ} → Occupied z s₁ s₂ (r - 1) p v → Allocated z s s₂ p r
       unfolding machineOf
       alloc-one {s₂} d =
           let i : ℕ = r - 1 in
@@ -119,9 +120,9 @@ module _ {z : Sizes} {s : List ℕ} {p : Proc} (a : AllocAsks z s p) where
                 record {
                   found = sym (f .machine) ∙ ap linkTo q;
                   did =
-                      did-as (did-join (t .did) (d .did))
-                      (λ k. pidStores (memIn z s) ++ adoptStores n (t .did .memory k) i p (t .pid k))
-                      (λ k. adoptMem n (t .did .memory k) i p (t .pid k))
+                      did-as (did-join (t .did) (d .did) (same-use refl refl refl refl))
+                      (λ k. pidStores (memIn z s) ++ occupyStores n (t .did .memory k) i p (t .pid k))
+                      (λ k. occupyMem n (t .did .memory k) i p (t .pid k))
                       (λ k. withProcess i (newProcess (t .pid k) p) (t .did .machine k));
                   nowhere = d .nowhere;
                 };

@@ -6,12 +6,13 @@ pub mod Off
 pub mod Exits
 pub mod Store
 pub mod New
-pub mod Adopt
-pub mod AdoptCode
+pub mod Occupy
+pub mod Release
+pub mod InUse
+pub mod OccupyCode
 pub mod Pid
 pub mod Alloc
 pub mod GoodPids
-pub mod Release
 pub mod ReleaseCode
 pub mod Own
 pub mod Nchild

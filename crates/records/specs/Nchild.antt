@@ -20,6 +20,7 @@ use Rattle.exact.specs.Bounds.{InBounds}
 use Rattle.exact.specs.Parts.{usedAt, used-at, used-of}
 use Rattle.holds.specs.Whole.{holds-bounds}
 use Rattle.holds.specs.Frames.{placed-same}
+use Rattle.holds.specs.Use.{usedBy, none, more, before}
 use Rattle.holds.specs.Did.{Did, did, machineIn, same, wrote-1}
 use Rattle.places.specs.Others.{others, keeps-with}
 use Rattle.records.specs.Else.{partOf, Else, else-none, else-put}
@@ -61,7 +62,7 @@ nchild-process {z} {m} {i} v b u =
 -- What the code shows.
 pub nchild-set
     : {z : Sizes} {s s₁ : List ℕ} {i v : ℕ} → LivingAsks z s i → v ≤ 65535 → PutIn z s s₁ (slot 1 32 2) i v → NchildSet z s s₁ i v
-unfolding withNchild
+unfolding withNchild usedBy
 nchild-set {z} {s} {s₁} {i} {v} a h q =
     let m : Memory = memIn z s in
     let b : InBounds (sizesIn z) m = holds-bounds (a .holds) in
@@ -75,5 +76,6 @@ nchild-set {z} {s} {s₁} {i} {v} a h q =
           (λ n x.
           keeps-with (others x)
           (placed-same n refl refl refl refl refl refl refl refl refl refl refl refl (own-asleep b (a .used) (nchild-else m i v) p refl) (x .placed)))
-          (own-machine b (a .used) (nchild-else m i v) p);
+          (own-machine b (a .used) (nchild-else m i v) p)
+          (more (before (a .used)) none);
     }

@@ -16,6 +16,7 @@ use Rattle.state.specs.Places.{sizesIn, memIn, PutIn}
 use Rattle.state.specs.declared.Sizes.{Sizes}
 use Rattle.holds.specs.Holds.{Keeps, Holds}
 use Rattle.holds.specs.Frames.{placed-same}
+use Rattle.holds.specs.Use.{usedBy, EachInUse, before}
 use Rattle.holds.specs.Did.{Did, did, machineIn, same, wrote-1}
 use Rattle.places.specs.Others.{others, keeps-with}
 
@@ -55,6 +56,7 @@ pub pid-taken
     → v ≡ memIn z s fields.nextPid 0
     → PutIn z s s₁ (slot 0 40 8) 0 (v + 1)
     → PidTaken z s s₁ v
+unfolding usedBy
 pid-taken {z} {s} {s₁} {v} a e q =
     record {
       pid = e;
@@ -64,5 +66,6 @@ pid-taken {z} {s} {s₁} {v} a e q =
           (record { listed = omega arith; index = omega arith }, a .room, tt)
           refl
           pid-keeps
-          (pid-machine (sizesIn z) (memIn z s));
+          (pid-machine (sizesIn z) (memIn z s))
+          (EachInUse.more (before (omega arith)) EachInUse.none);
     }

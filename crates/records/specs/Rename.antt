@@ -24,6 +24,7 @@ use Rattle.holds.specs.Did.{Did, did, machineIn, same}
 use Rattle.places.specs.Others.{others, keeps-with}
 use Rattle.records.specs.Names.{IsName, namesWith, name-here, spelled-stores, spelled-writable}
 use Rattle.records.specs.Else.{Else, else-none, else-name}
+use Rattle.records.specs.InUse.{name-in-use}
 use Rattle.records.specs.Own.{LivingAsks, living-low, own-machine, own-asleep}
 
 -- The name is stored.
@@ -83,5 +84,6 @@ name-set {z} {s} {s₁} {i} {text} a q =
           (λ n x.
           keeps-with (others x)
           (placed-same n refl refl refl refl refl refl refl refl refl refl refl refl (own-asleep b (a .living .used) e p refl) (x .placed)))
-          (own-machine b (a .living .used) e p);
+          (own-machine b (a .living .used) e p)
+          (name-in-use i (28 * i) 0 text (a .living .used) (omega arith) (omega arith));
     }

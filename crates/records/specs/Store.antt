@@ -19,6 +19,7 @@ use Rattle.record.specs.declared.Proc.{Proc}
 use Rattle.record.specs.Resumes.{numberOf, objectOf, conditionOf}
 use Rattle.record.specs.Stores.{idStores, tieStores, countStores, nameStores, numberStores, resumeStores, recordStores}
 use Rattle.holds.specs.Holds.{Keeps}
+use Rattle.holds.specs.Use.{EachInUse}
 use Rattle.holds.specs.Did.{Did, same, writesIn, WritableIn, writable-join}
 use Rattle.free.specs.Asks.{StateIn}
 use Rattle.records.specs.Names.{IsName, namesWith, spelled-stores, spelled-writable}
@@ -134,12 +135,14 @@ pub did-stored
     → memIn z s′ ≡ k
     → ((n : ℕ) → Keeps (sizesIn z) (memIn z s) n → Keeps (sizesIn z) k n)
     → machineOf (sizesIn z) k ≡ a
+    → EachInUse z (memIn z s) k ws
     → Did z s s′ same same ws k a
-did-stored {z} t b ok e keeps m =
+did-stored {z} t b ok e keeps m u =
     record {
       holds = λ n g. record { sizes = g .sizes; state = t; keeps = subst (λ (y : Memory). Keeps (sizesIn z) y n) (sym e) (keeps n (g .keeps)) };
       bytes = b;
       writable = ok;
       memory = e;
       machine = ap (machineOf (sizesIn z)) e ∙ m;
+      inUse = u;
     }

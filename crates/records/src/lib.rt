@@ -6,13 +6,16 @@ use state::Index;
 use state::Sizes;
 ghost use mathlib.Core.Path.{_≡_};
 ghost use Rattle.records.specs.Pid.{NextPidAsks, PidTaken};
-ghost use Rattle.records.specs.AdoptCode.{AdoptAsks, Adopted};
+ghost use Rattle.records.specs.OccupyCode.{OccupyAsks, Occupied};
 ghost use Rattle.records.specs.New.{newborn};
 ghost use Rattle.records.specs.Alloc.{AllocAsks, Allocated};
 ghost use Rattle.records.specs.ReleaseCode.{ReleaseAsks, Released};
 ghost use Rattle.records.specs.Own.{LivingAsks};
 ghost use Rattle.records.specs.Nchild.{NchildSet};
 ghost use Rattle.records.specs.Rename.{NameAsks, NameSet};
+
+// The next pid at which no process is made any more, 2^64 - 1.
+pub const PIDS_END: u64 = 18_446_744_073_709_551_615;
 
 // Takes the next pid, which rises by one.
 pub fn next_pid(s: &mut [u8], z: Sizes) -> u64
@@ -48,9 +51,9 @@ fn newborn(old: Proc, p: Proc, pid: u64) -> Proc
 }
 
 // Gives the free record `i` to a new process, the youngest.
-fn adopt(s: &mut [u8], z: Sizes, i: Index, p: Proc, pid: u64)
-    requires { ⌜ AdoptAsks z (now s) i p pid ⌝ }
-    ensures { λ _. ⌜ Adopted z (now (s .entry)) (now (s .exit)) i p pid ⌝ }
+fn occupy(s: &mut [u8], z: Sizes, i: Index, p: Proc, pid: u64)
+    requires { ⌜ OccupyAsks z (now s) i p pid ⌝ }
+    ensures { λ _. ⌜ Occupied z (now (s .entry)) (now (s .exit)) i p pid ⌝ }
 {
     free::use_record(s, z, i);
     ages::age_in(s, z, i);
@@ -70,7 +73,7 @@ pub fn alloc(s: &mut [u8], z: Sizes, p: Proc) -> Index
         return 0;
     }
     let pid = next_pid(s, z);
-    adopt(s, z, link - 1, p, pid);
+    occupy(s, z, link - 1, p, pid);
     link
 }
 

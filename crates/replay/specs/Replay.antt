@@ -55,14 +55,15 @@ list-feeds a p =
     }
 
 pub list-finishes
-    : {z : Sizes} {s s₁ input held held₁ b₁ m₁ out out₁ : List ℕ} {f f₁ : Fed}
+    : {z : Sizes} {s s₁ input held held₁ b₁ m₁ out out₁ : List ℕ} {f f₁ : Fed} {most : ℕ}
     → FeedEnds z input s held out f s₁ held₁ out₁ f₁
     → length held₁ ≡ 4097
     → length b₁ ≡ 4128
     → length m₁ ≡ 127
-    → 4266 + 21 * z .processes ≤ length out₁ - f₁ .used
+    → most ≡ lineMost z
+    → most ≤ length out₁ - f₁ .used
     → FinishAsks z s₁ held₁ b₁ m₁ out₁ f₁
-list-finishes g l k j r =
+list-finishes g l k j e r =
     record {
       well = g .went .well;
       line = l;

@@ -1,5 +1,6 @@
 // Replays lists of steps: the listing that the machine gives for each is compared with the one that is kept.
-// Its arguments come in threes: the sizes as P,R,Q,K,C,HZ; a file of steps; the listing that is kept of it.
+// Its arguments come in threes: the sizes as P,R,Q,K,C,HZ; a file of steps; the listing that is kept of it. It ends at the first
+// list that does not agree, at a file that cannot be read whole or at a rest of arguments, and names it.
 use libc::STDOUT_FILENO;
 use listing::Fed;
 use state::Sizes;
@@ -107,8 +108,7 @@ fn list(
         used,
     };
     let fed = listing::feed(s, z, input, held, b, message, out, start);
-    let most = 4266 + 21 * z.processes as usize;
-    if out.len() - fed.used < most {
+    if out.len() - fed.used < line::most(z) {
         return 0;
     }
     listing::finish(s, z, held, b, message, out, fed)
@@ -166,20 +166,33 @@ fn big_buffer() -> [u8; 262144]
     [0; 262144]
 }
 
-// Reads the file that argument `i` names: how many bytes, and 0 where it cannot.
-fn read_file(i: usize, buf: &mut [u8]) -> usize
-    ensures { λ r. ⌜ Within (now (buf .exit)) r ⌝ }
+// What was read of a file: whether that is all of it, and how many bytes.
+struct Loaded {
+    is_whole: bool,
+    length: usize,
+}
+
+// Reads the file that argument `i` names; not whole where it cannot be opened or read, or is longer than the buffer.
+fn read_file(i: usize, buf: &mut [u8]) -> Loaded
+    ensures { λ r. ⌜ Within (now (buf .exit)) (r .length) ⌝ }
 {
     let mut path = io::buffer();
     let n = os::arg(i, &mut path);
     let fd = os::open_read(&path[..n]);
     if fd < 0 {
         os::fail(&path[..n]);
-        return 0;
+        return Loaded {
+            is_whole: false,
+            length: 0,
+        };
     }
-    let got = io::read_full(fd, buf);
+    let length = io::read_full(fd, buf);
+    let rest = libc::read(fd, &mut path);
     libc::close(fd);
-    got
+    Loaded {
+        is_whole: rest == 0,
+        length,
+    }
 }
 
 // The number of the first line in which the listing of `input` is not the one that is kept, 0 where they are the same.
@@ -189,8 +202,36 @@ fn compare(s: &mut [u8], input: &[u8], kept: &[u8]) -> u64 {
     difference(&out[..n], kept)
 }
 
-// The same for the list that the three arguments from `i` on name.
-fn replay_list(i: usize) -> u64
+// Names argument `i`, and what there is to say of it.
+fn say(i: usize, what: &[u8]) {
+    let mut word = io::buffer();
+    let n = os::arg(i, &mut word);
+    io::write_all(STDOUT_FILENO, b"replay: ");
+    io::write_all(STDOUT_FILENO, &word[..n]);
+    io::write_all(STDOUT_FILENO, what);
+}
+
+// The same, and the line that differs.
+fn report(i: usize, line: u64) {
+    say(i, b": another listing, from line ");
+    io::print_decimal(STDOUT_FILENO, line);
+    io::write_all(STDOUT_FILENO, b"\n");
+}
+
+fn say_unread(i: usize) {
+    say(i, b": cannot be read whole\n");
+}
+
+fn say_rest(i: usize) {
+    say(i, b": arguments come in threes\n");
+}
+
+fn say_unmade(i: usize) {
+    say(i, b": no sizes of a state, or too large\n");
+}
+
+// Does the list that the three arguments from `i` on name agree? Where not, says why.
+fn replay_list(i: usize) -> bool
     requires { ⌜ suc (suc i) < 18446744073709551616 ⌝ }
 {
     let mut state = big_buffer();
@@ -201,20 +242,22 @@ fn replay_list(i: usize) -> u64
     let steps = read_file(i + 1, &mut input);
     let lines = read_file(i + 2, &mut kept);
     if !open(&mut state, &sizes[..n]) {
-        return 1;
+        say_unmade(i);
+        return false;
     }
-    compare(&mut state, &input[..steps], &kept[..lines])
-}
-
-// Names the list whose file of steps is argument `i`, and the line that differs.
-fn report(i: usize, line: u64) {
-    let mut path = io::buffer();
-    let n = os::arg(i, &mut path);
-    io::write_all(STDOUT_FILENO, b"replay: ");
-    io::write_all(STDOUT_FILENO, &path[..n]);
-    io::write_all(STDOUT_FILENO, b": another listing, from line ");
-    io::print_decimal(STDOUT_FILENO, line);
-    io::write_all(STDOUT_FILENO, b"\n");
+    if !steps.is_whole {
+        say_unread(i + 1);
+        return false;
+    }
+    if !lines.is_whole {
+        say_unread(i + 2);
+        return false;
+    }
+    let line = compare(&mut state, &input[..steps.length], &kept[..lines.length]);
+    if line != 0 {
+        report(i + 1, line);
+    }
+    line == 0
 }
 
 // Says how many agreed.
@@ -230,12 +273,10 @@ fn main() {
     let mut agreed: u64 = 0;
     while i < count {
         if count - i < 3 {
-            tell(agreed);
+            say_rest(i);
             return;
         }
-        let line = replay_list(i);
-        if line != 0 {
-            report(i + 1, line);
+        if !replay_list(i) {
             return;
         }
         agreed += 1;

@@ -196,7 +196,7 @@ fn start_high(z: Sizes, region: u8) -> usize
 }
 
 // Where a region starts.
-fn start_of(z: Sizes, region: u8) -> usize
+pub fn start_of(z: Sizes, region: u8) -> usize
     requires { ⌜ region < 13 ⌝ }
     ensures { λ r. ⌜ (r ≡ startIn z region) × (r < 33554432) ⌝ }
 {

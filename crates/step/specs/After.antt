@@ -1,5 +1,5 @@
 -- What a step leaves of the bytes of a well-formed state.
-use mathlib.Core.Path.{_≡_, refl, sym, ap, subst, _∙_}
+use mathlib.Core.Path.{_≡_, refl, sym, ap, subst, subst₂, _∙_}
 use mathlib.Core.Bool.{Bool, _&&_}
 use mathlib.Core.List.{List, [], _∷_, _++_}
 use mathlib.Core.Option.{Option, none, some}
@@ -14,7 +14,7 @@ use Rattle.machine.specs.Step.{Step, Body}
 use Rattle.machine.specs.Table.{on}
 use Rattle.machine.specs.Outcome.{Outcome, refused}
 use Rattle.machine.specs.StepOf.{outcomeOf}
-use Rattle.layout.specs.Memory.{mem, cell}
+use Rattle.layout.specs.Memory.{Memory, mem, cell}
 use Rattle.layout.specs.Table.{total}
 use Rattle.layout.specs.Writes.{Write, to, writes, Writable}
 use Rattle.state.specs.Fields as fields
@@ -26,7 +26,8 @@ use Rattle.kept.specs.Kept.{good-outcome}
 use Rattle.holds.specs.Holds.{Holds}
 use Rattle.holds.specs.Whole.{well-holds, holds-sizes, holds-machine, holds-rep}
 use Rattle.holds.specs.Did.{machineIn}
-use Rattle.holds.specs.Touched.{Touched, touched-length, touched-behind}
+use Rattle.holds.specs.Use.{usedBy}
+use Rattle.holds.specs.Touched.{spares-length, spares-behind, spares-unused}
 use Rattle.outcome.specs.declared.Reply.{Reply}
 use Rattle.outcome.specs.Stepped.{Well, leftBytes}
 use Rattle.proc.specs.Taken.{Taken, leftIn, given}
@@ -39,6 +40,15 @@ totalOf s = total fields.layout1 (fields.counts (sizesOf s))
 abbrev pub writesTo : List ℕ → List Write → List ℕ
 writesTo s ws = writes fields.layout1 (fields.counts (sizesOf s)) s ws
 
+-- Whether the machine of the bytes s may use field f of number i: 0 where it does not.
+abbrev usedAt : machine.Sizes → List ℕ → ℕ → ℕ → ℕ
+usedAt v s =
+    let m : Memory = mem fields.layout1 (fields.counts v) s in
+    usedBy (v .timers) (m fields.pid) (m fields.isQueued) (m fields.owner) (m fields.messageLength)
+
+abbrev pub usedOf : List ℕ → ℕ → ℕ → ℕ
+usedOf s = usedAt (sizesOf s) s
+
 -- A refused step leaves every byte, but for 11 on an rfork with M = 3, where the next pid rises by one.
 unfoldable pub leftOf : List ℕ → ℕ → Option Step → List ℕ
 leftOf s n none = s
@@ -46,13 +56,14 @@ leftOf s n (some x) =
     if eqb n 11 && on 2 "rfork" (λ F M. eqb M 3) (x .body) then writesTo s (to fields.nextPid 0 (suc (abs s .nextPid)) ∷ []) else s
 
 -- The bytes s, well formed, became s′ with the outcome o of what was handed in: they are well formed again and hold its machine; only
--- fields of the state are written; what is behind the state stays; a refusal leaves all.
+-- fields of the state are written; what the machine uses neither before nor after stays, and what is behind the state; a refusal leaves all.
 pub record After (s s′ : List ℕ) (x : Option Step) (o : Outcome) : Type 0 where
   pub wellFormed : WellFormed s′
   pub machine : abs s′ ≡ o .after
   pub stores : List Write
   pub writable : Writable fields.layout1 (fields.mostOf (sizesOf s)) (fields.counts (sizesOf s)) stores
   pub bytes : s′ ≡ writesTo s stores
+  pub spared : (f i : ℕ) → usedOf s f i ≡ 0 → usedOf s′ f i ≡ 0 → memoryOf s′ f i ≡ memoryOf s f i
   pub long : length s′ ≡ length s
   pub behind : drop (totalOf s) s′ ≡ drop (totalOf s) s
   pub left : (n : ℕ) → o .reply ≡ refused n → s′ ≡ leftOf s n x
@@ -78,6 +89,11 @@ left-of z s n (some x) w =
     else s)
     (sym (holds-sizes (w .holds)))
 
+-- What is used neither before nor after stays, at sizes that are not yet known to be the headers'.
+abbrev Spared : machine.Sizes → machine.Sizes → List ℕ → List ℕ → Type 0
+Spared v v′ s s′ =
+    (f i : ℕ) → usedAt v s f i ≡ 0 → usedAt v′ s′ f i ≡ 0 → mem fields.layout1 (fields.counts v′) s′ f i ≡ mem fields.layout1 (fields.counts v) s f i
+
 -- What a step on a well-formed state leaves.
 pub well-after
     : {z : Sizes} {s s′ m m′ : List ℕ} {x : Option Step} {r : Reply} → Well z s → Taken z s s′ x m m′ r → Well z s′
@@ -95,16 +111,17 @@ after-of {z} {s} {s′} {m} {m′} {x} {r} w t =
     record {
       wellFormed = formed-of (well-after w t);
       machine = holds-machine (t .holds) ∙ t .machine ∙ ap (λ (y : Outcome). y .after) (sym o);
-      stores = t .touched .stores;
+      stores = t .spares .stores;
       writable =
-          subst (λ (v : machine.Sizes). Writable fields.layout1 (fields.mostOf v) (fields.counts v) (t .touched .stores)) (sym e)
-          (t .touched .writable);
+          subst (λ (v : machine.Sizes). Writable fields.layout1 (fields.mostOf v) (fields.counts v) (t .spares .stores)) (sym e)
+          (t .spares .writable);
       bytes =
-          t .touched .bytes ∙ ap (λ (v : machine.Sizes). writes fields.layout1 (fields.counts v) s (t .touched .stores)) (sym e);
-      long = touched-length (t .touched);
+          t .spares .bytes ∙ ap (λ (v : machine.Sizes). writes fields.layout1 (fields.counts v) s (t .spares .stores)) (sym e);
+      spared = subst₂ (λ (v v′ : machine.Sizes). Spared v v′ s s′) (sym e) (sym (holds-sizes (t .holds))) (spares-unused (w .holds) (t .spares));
+      long = spares-length (t .spares);
       behind =
           subst (λ (v : machine.Sizes). drop (total fields.layout1 (fields.counts v)) s′ ≡ drop (total fields.layout1 (fields.counts v)) s)
           (sym e)
-          (touched-behind (w .holds) (t .touched));
+          (spares-behind (w .holds) (t .spares));
       left = λ n q. t .left n (ap (λ (y : Outcome). y .reply) (sym o) ∙ q) ∙ left-of z s n x w;
     }

@@ -14,10 +14,13 @@ use Rattle.state.specs.declared.Sizes.{Sizes}
 use Rattle.timers.specs.Find.{timersIn, queueIn, spotIn}
 use Rattle.timers.specs.Out.{none-absent}
 use Rattle.timers.specs.Insert.{insertStores, insertMem, linkMem, headField, queuedIn, InsertAsks, Inserted, Entered}
+use Rattle.timers.specs.Linked.{spot-queued}
 use Rattle.holds.specs.Holds.{Holds}
-use Rattle.holds.specs.Touched.{Touched, touched-join}
+use Rattle.holds.specs.Use.{Between, EachInUse}
+use Rattle.holds.specs.Touched.{Spares, spares-fewer}
 use Rattle.timer.specs.Only.{Owing, owing-after, aside, Only, only-none, only-set}
 use Rattle.timer.specs.Aside.{holds-aside}
+use Rattle.timer.specs.Use.{insert-uses, insert-in-use}
 use Rattle.timer.specs.Del.{machineIn, delStores, delMem, TimerAsks, Deleted, timers-of}
 
 -- The stores that queue timer t at deadline d, and the memory then.
@@ -47,7 +50,9 @@ pub record QueuedAt (z : Sizes) (s s′ : List ℕ) (t d : ℕ) : Type 0 where
   pub wrote : Wrote z s s′ (queueStores z (memIn z s) t d)
   pub memory : memIn z s′ ≡ queueMem z (memIn z s) t d
   pub machine : machineIn z s′ ≡ withQueued (insert (record { timer = t; deadline = d }) (machineIn z s .queued)) (machineIn z s)
-  pub touched : Touched z s s′
+  pub spares : Spares z s s′
+  -- no more is used than before, and in a memory in which timer t is queued
+  pub uses : (k : Memory) → 0 < k fields.isQueued t → Between z k (memIn z s′) (memIn z s)
 
 pub record Added (z : Sizes) (s s′ : List ℕ) (t d : ℕ) : Type 0 where
   pub holds : (n : ℕ) → Holds z s n → Holds z s′ n
@@ -55,7 +60,7 @@ pub record Added (z : Sizes) (s s′ : List ℕ) (t d : ℕ) : Type 0 where
   pub wrote : Wrote z s s′ (addStores z (memIn z s) t d)
   pub memory : memIn z s′ ≡ addMem z (memIn z s) t d
   pub machine : machineIn z s′ ≡ add t d (machineIn z s)
-  pub touched : Touched z s s′
+  pub spares : Spares z s s′
 
 pub insert-asks : {z : Sizes} {s : List ℕ} {t : ℕ} → QueueAsks z s t → InsertAsks z s t
 insert-asks {z} {s} {t} a =
@@ -106,7 +111,15 @@ queued {z} {s} {s′} {t} {d} a r =
       machine =
           ap (λ (k : Memory). machineOf (sizesIn z) k) e
           ∙ machine-insert z m (spotIn z m d) t d (subst (λ (k : Memory). Entered z m k t d) e (r .entered));
-      touched = record { stores = queueStores z m t d; writable = r .writable; bytes = r .wrote .bytes };
+      spares = record {
+        stores = queueStores z m t d;
+        writable = r .writable;
+        bytes = r .wrote .bytes;
+        inUse =
+            subst (λ (k : Memory). EachInUse z m k (queueStores z m t d)) (sym e)
+            (insert-in-use z m (spotIn z m d) t d (spot-queued z m d (a .owing .holds .keeps .timed .queued)));
+      };
+      uses = λ k h. subst (λ (x : Memory). Between z k x m) (sym e) (insert-uses z m (spotIn z m d) t d k h);
     }
 
 pub queue-asks : {z : Sizes} {s s₁ : List ℕ} {t : ℕ} → TimerAsks z s t → Deleted z s s₁ t → QueueAsks z s₁ t
@@ -130,5 +143,5 @@ added {z} {s} {s₁} {s₂} {t} {d} a o q =
           q .machine
           ∙ ap (λ (x : Machine). withQueued (insert (record { timer = t; deadline = d }) (x .queued)) x) (o .machine)
           ∙ machine-add t d (machineIn z s);
-      touched = touched-join (o .touched) (q .touched);
+      spares = spares-fewer (o .spares) (o .fewer) (q .spares);
     }

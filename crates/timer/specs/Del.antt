@@ -16,10 +16,13 @@ use Rattle.timers.specs.Find.{timersIn, TimersIn}
 use Rattle.timers.specs.Insert.{queuedIn}
 use Rattle.timers.specs.Remove.{removeStores, removeMem, headOut, linksOut, RemoveAsks, Removed, Left}
 use Rattle.timers.specs.Seek.{beforeIn}
+use Rattle.timers.specs.Linked.{before-queued}
 use Rattle.holds.specs.Holds.{Holds}
-use Rattle.holds.specs.Touched.{Touched}
+use Rattle.holds.specs.Use.{Fewer, EachInUse}
+use Rattle.holds.specs.Touched.{Spares}
 use Rattle.timer.specs.Only.{Owing, owing-after, aside, Only, only-none, only-set}
 use Rattle.timer.specs.Aside.{holds-aside}
+use Rattle.timer.specs.Use.{remove-fewer, remove-in-use}
 
 -- The machine of the bytes at the sizes that the code carries.
 abbrev pub machineIn : Sizes → List ℕ → Machine
@@ -46,7 +49,8 @@ pub record Deleted (z : Sizes) (s s′ : List ℕ) (t : ℕ) : Type 0 where
   pub machine : machineIn z s′ ≡ delete t (machineIn z s)
   pub off : memIn z s′ fields.isQueued t ≡ 0
   pub deadlines : memIn z s′ fields.deadline ≡ memIn z s fields.deadline
-  pub touched : Touched z s s′
+  pub spares : Spares z s s′
+  pub fewer : Fewer z (memIn z s) (memIn z s′)
 
 -- What the queue of timers alone asks.
 pub timers-of : {z : Sizes} {s : List ℕ} → Owing z s → TimersIn z s
@@ -98,5 +102,13 @@ deleted {z} {s} {s′} {t} a r =
           ∙ machine-delete z m (m fields.isQueued t) (beforeIn z m t) t (subst (λ (k : Memory). Left z m k t) e (r .left));
       off = ap (λ (k : Memory). k fields.isQueued t) e ∙ alter-same (m fields.isQueued) t 0;
       deadlines = ap (λ (k : Memory). k fields.deadline) e;
-      touched = record { stores = delStores z m t; writable = r .writable; bytes = r .wrote .bytes };
+      spares = record {
+        stores = delStores z m t;
+        writable = r .writable;
+        bytes = r .wrote .bytes;
+        inUse =
+            subst (λ (k : Memory). EachInUse z m k (delStores z m t)) (sym e)
+            (remove-in-use z m (m fields.isQueued t) (beforeIn z m t) t refl (before-queued z m t (a .owing .holds .keeps .timed .queued)));
+      };
+      fewer = subst (Fewer z m) (sym e) (remove-fewer z m (m fields.isQueued t) (beforeIn z m t) t);
     }

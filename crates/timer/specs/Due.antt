@@ -18,10 +18,11 @@ use Rattle.timers.specs.Entries.{entries}
 use Rattle.timers.specs.Insert.{queuedIn, queued-machine}
 use Rattle.exact.specs.Parts.{walk-none}
 use Rattle.holds.specs.Holds.{Holds}
-use Rattle.holds.specs.Touched.{Touched, touched-none}
+use Rattle.holds.specs.Use.{Fewer}
+use Rattle.holds.specs.Touched.{Spares, spares-none}
 use Rattle.timer.specs.Only.{Owing}
 use Rattle.timer.specs.Del.{machineIn, delStores, delMem, Deleted}
-use Rattle.timer.specs.Pop.{PopAsks, pop-asks, split-head, remove-head}
+use Rattle.timer.specs.Pop.{PopAsks, pop-asks, split-head, head-on, remove-head}
 
 -- The stores, and the memory then, where the answer is r: a link to the timer that was due, or 0.
 abbrev pub popStores : Sizes → Memory → ℕ → List Write
@@ -52,12 +53,14 @@ pub record PoppedDue (z : Sizes) (s s′ : List ℕ) (reading r : ℕ) : Type 0 
   pub range : r ≤ timersIn z
   -- 0: nothing is due
   pub later : r ≡ 0 → Later reading (machineIn z s .queued)
-  -- t + 1: it was t, which is off the queue
+  -- t + 1: it was t, which is off the queue, and was on it
   pub head : (t : ℕ) → r ≡ suc t → HeadDue (machineIn z s) (machineIn z s′) reading t (memIn z s fields.deadline t)
   pub off : (t : ℕ) → r ≡ suc t → memIn z s′ fields.isQueued t ≡ 0
+  pub on : (t : ℕ) → r ≡ suc t → 0 < memIn z s fields.isQueued t
   -- the deadlines stay, also that of a timer that is off the queue
   pub deadlines : memIn z s′ fields.deadline ≡ memIn z s fields.deadline
-  pub touched : Touched z s s′
+  pub spares : Spares z s s′
+  pub fewer : Fewer z (memIn z s) (memIn z s′)
 
 -- What the code of `pop_due` shows: no head, a later one, and one that is due.
 nothing-due : {z : Sizes} {s : List ℕ} {reading : ℕ} → Owing z s → Later reading (queuedIn z (memIn z s)) → PoppedDue z s s reading 0
@@ -71,8 +74,10 @@ nothing-due {z} {s} {reading} o l =
       later = λ e. subst (Later reading) (sym (queued-machine z (memIn z s))) l;
       head = λ t e. absurd (omega (arith, e));
       off = λ t e. absurd (omega (arith, e));
+      on = λ t e. absurd (omega (arith, e));
       deadlines = refl;
-      touched = touched-none;
+      spares = spares-none;
+      fewer = record { fewer = λ f i e. e };
     }
 
 pub popped-none : {z : Sizes} {s : List ℕ} {reading link : ℕ} → Owing z s → link ≡ memIn z s fields.timerHead 0 → link ≡ 0 → PoppedDue z s s reading 0
@@ -135,7 +140,7 @@ popped-due {z} {s} {s′} {reading} {link} {deadline} o e ne q l d =
     let f : HeadDue (machineIn z s) (machineIn z s′) reading (link - 1) (memIn z s fields.deadline (link - 1)) =
     head-due z s s′ reading (link - 1) a (rw q at l) d
     in
-    go (link - 1) link (omega arith) (a .index) d f
+    go (link - 1) link (omega arith) (a .index) d f (head-on a)
   where
     go
         : (t r : ℕ)
@@ -143,8 +148,9 @@ popped-due {z} {s} {s′} {reading} {link} {deadline} o e ne q l d =
         → t < timersIn z
         → Deleted z s s′ t
         → HeadDue (machineIn z s) (machineIn z s′) reading t (memIn z s fields.deadline t)
+        → 0 < memIn z s fields.isQueued t
         → PoppedDue z s s′ reading r
-    go t r x i k f =
+    go t r x i k f on =
         subst (λ (v : ℕ). PoppedDue z s s′ reading v) x
         (record {
           holds = k .holds;
@@ -157,6 +163,8 @@ popped-due {z} {s} {s′} {reading} {link} {deadline} o e ne q l d =
               let h : t ≡ u = omega (arith, y) in
               subst (λ (v : ℕ). HeadDue (machineIn z s) (machineIn z s′) reading v (memIn z s fields.deadline v)) h f;
           off = λ u y. let h : t ≡ u = omega (arith, y) in subst (λ (v : ℕ). memIn z s′ fields.isQueued v ≡ 0) h (k .off);
+          on = λ u y. let h : t ≡ u = omega (arith, y) in subst (λ (v : ℕ). 0 < memIn z s fields.isQueued v) h on;
           deadlines = k .deadlines;
-          touched = k .touched;
+          spares = k .spares;
+          fewer = k .fewer;
         })

@@ -1,6 +1,7 @@
 -- The timer queue as operations on the lent state.
 pub mod Only
 pub mod Aside
+pub mod Use
 pub mod Del
 pub mod Add
 pub mod Pop

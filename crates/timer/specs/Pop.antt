@@ -58,9 +58,14 @@ split-head z s t o e =
     subst (λ (k : ℕ). queueIn z m ≡ k ∷ fromLink z m (m fields.timerNext k)) q (next-left c (λ x. absurd (omega (arith, e, x))) .1)
 
 -- The head stands in the queue, behind no link, and without it the rest is left.
-count-head : (t : ℕ) (ys : List ℕ) → count t (t ∷ ys) ≡ 0 → ⊥
+count-head : (t : ℕ) (ys : List ℕ) → 0 < count t (t ∷ ys)
 unfolding count
-count-head t ys e = absurd (omega (arith, rw (eq-eqb t t refl) at e))
+count-head t ys = rw (eq-eqb t t refl) (omega arith)
+
+pub head-on : {z : Sizes} {s : List ℕ} {t : ℕ} → PopAsks z s t → 0 < memIn z s fields.isQueued t
+head-on {z} {s} {t} a =
+    let ys : List ℕ = fromLink z (memIn z s) (memIn z s fields.timerNext t) in
+    omega (arith, a .owing .holds .keeps .timed .queued t, ap (λ (l : List ℕ). count t l) (split-head z s t (a .owing) (a .head)), count-head t ys)
 
 before-head : (t : ℕ) (ys : List ℕ) → before t 0 (t ∷ ys) ≡ 0
 before-head t ys = rw (eq-eqb t t refl)
@@ -85,10 +90,7 @@ popped {z} {s} {s₁} {s₂} {s₃} {t} {n} a e p₁ p₂ p₃ =
     let m : Memory = memIn z s in
     let ys : List ℕ = fromLink z m (m fields.timerNext t) in
     let q : queueIn z m ≡ t ∷ ys = split-head z s t (a .owing) (a .head) in
-    let on : m fields.isQueued t ≡ 0 → ⊥ =
-    λ o. count-head t ys (ap (λ (l : List ℕ). count t l) (sym q) ∙ sym (a .owing .holds .keeps .timed .queued t) ∙ o)
-    in
     let b : Sought z m t 0 = record { place = sym (ap (λ (l : List ℕ). before t 0 l) q ∙ before-head t ys); range = omega arith } in
     let asks : TimerAsks z s t = record { owing = a .owing; index = a .index } in
     deleted asks
-    (removed-one (remove-asks asks) refl on b (wrote-2 (subst (λ (v : ℕ). PutIn z s s₁ (slot 0 34 2) 0 v) e p₁) p₂) p₃)
+    (removed-one (remove-asks asks) refl (λ e. absurd (omega (arith, head-on a, e))) b (wrote-2 (subst (λ (v : ℕ). PutIn z s s₁ (slot 0 34 2) 0 v) e p₁) p₂) p₃)

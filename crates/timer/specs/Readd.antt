@@ -19,7 +19,8 @@ use Rattle.state.specs.Places.{sizesIn, memIn, Wrote}
 use Rattle.state.specs.declared.Sizes.{Sizes}
 use Rattle.timers.specs.Find.{timersIn}
 use Rattle.holds.specs.Holds.{Holds}
-use Rattle.holds.specs.Touched.{Touched, touched-none}
+use Rattle.holds.specs.Use.{Between}
+use Rattle.holds.specs.Touched.{Spares, spares-none}
 use Rattle.timer.specs.Only.{Owing}
 use Rattle.timer.specs.Del.{machineIn}
 use Rattle.timer.specs.Add.{queueStores, queueMem, QueuedAt}
@@ -51,7 +52,9 @@ pub record Readded (z : Sizes) (s s′ : List ℕ) (t : ℕ) : Type 0 where
   pub wrote : Wrote z s s′ (readdStores z (memIn z s) t (periodIn z (memIn z s) t))
   pub memory : memIn z s′ ≡ readdMem z (memIn z s) t (periodIn z (memIn z s) t)
   pub machine : machineIn z s′ ≡ readd (record { timer = t; deadline = memIn z s fields.deadline t }) (machineIn z s)
-  pub touched : Touched z s s′
+  pub spares : Spares z s s′
+  -- no more is used than before, and in a memory in which it is queued
+  pub uses : (k : Memory) → 0 < k fields.isQueued t → Between z k (memIn z s′) (memIn z s)
 
 -- That period is the machine's.
 abbrev settingAt : Memory → ℕ → Setting
@@ -78,7 +81,8 @@ stays z s t o e =
       wrote = rw e (record { bytes = refl; long = o .holds .state .long });
       memory = rw e;
       machine = rw (period-of z (memIn z s) t, e);
-      touched = touched-none;
+      spares = spares-none;
+      uses = λ k h. record { between = λ f i a b. b };
     }
 
 pub readded-own : {z : Sizes} {s : List ℕ} {t : ℕ} → ReaddAsks z s t → z .timers ≤ t → Readded z s s t
@@ -108,7 +112,8 @@ returns-at z s s′ t (suc p) e ne q =
       wrote = rw e (q .wrote);
       memory = rw e (q .memory);
       machine = rw (period-of z (memIn z s) t, e, ne-eqb (suc p) 0 ne) (q .machine);
-      touched = q .touched;
+      spares = q .spares;
+      uses = q .uses;
     }
 
 pub readded

@@ -45,6 +45,13 @@ pub record Found (z : Sizes) (m : Memory) (k r : ℕ) : Type 0 where
 pub record Chained (z : Sizes) (m : Memory) (h : ℕ) : Type 0 where
   pub chain : Chain (timersIn z) (m fields.timerNext) h (fromLink z m h)
 
+-- What the record of a link holds; of link 0 nothing is said.
+pub record DeadlineOf (m : Memory) (link r : ℕ) : Type 0 where
+  pub known : (link ≡ 0 → ⊥) → r ≡ m fields.deadline (link - 1)
+
+pub record NextOf (m : Memory) (link r : ℕ) : Type 0 where
+  pub known : (link ≡ 0 → ⊥) → r ≡ m fields.timerNext (link - 1)
+
 -- The invariant: what is left to walk is a chain, and its spot is the one looked for.
 pub record Finding (z : Sizes) (m : Memory) (k prev link : ℕ) : Type 0 where
   pub left : Chained z m link
@@ -79,6 +86,9 @@ unroll {z} {m} {link} c ne = go (fromLink z m link) refl (c .chain)
           subst (λ (j : ℕ). Chain (timersIn z) (m fields.timerNext) (m fields.timerNext j) xs) q (chain-tail d),
         )
 
+pub next-near : {z : Sizes} {m : Memory} {link link′ : ℕ} → Chained z m link → (link ≡ 0 → ⊥) → NextOf m link link′ → link′ ≤ timersIn z
+next-near c ne n = rw (n .known ne) (chain-first (unroll c ne .2))
+
 pub next-left
     : {z : Sizes} {m : Memory} {link : ℕ}
     → Chained z m link
@@ -89,28 +99,31 @@ next-left {z} {m} {link} c ne =
     let w : fromLink z m (m fields.timerNext (link - 1)) ≡ u .0 = chain-walk (u .2) in
     (record { chain = rw w (u .2) }, rw w (u .1))
 
+pub head-near : {z : Sizes} {s : List ℕ} {link : ℕ} → TimersIn z s → link ≡ memIn z s fields.timerHead 0 → link ≤ timersIn z
+head-near a e = rw e (chain-first (a .chain))
+
 -- A turn of the loop.
 pub find-step
     : {z : Sizes} {m : Memory} {k prev link key link′ : ℕ}
     → Finding z m k prev link
     → (link ≡ 0 → ⊥)
-    → key ≡ m fields.deadline (link - 1)
+    → DeadlineOf m link key
     → key ≤ k
-    → link′ ≡ m fields.timerNext (link - 1)
+    → NextOf m link link′
     → Finding z m k link link′
-find-step {z} {m} {k} {prev} {link} {key} {link′} f ne e h n =
+find-step {z} {m} {k} {prev} {link} {key} {link′} f ne d h n =
     let l : Chained z m (m fields.timerNext (link - 1)) × (fromLink z m link ≡ (link - 1) ∷ fromLink z m (m fields.timerNext (link - 1))) = next-left (f .left) ne in
-    let t : ltb k (m fields.deadline (link - 1)) ≡ false = le-ltb k (m fields.deadline (link - 1)) (rw e at h) in
+    let t : ltb k (m fields.deadline (link - 1)) ≡ false = le-ltb k (m fields.deadline (link - 1)) (rw (d .known ne) at h) in
     let o : suc (link - 1) ≡ link = omega arith in
-    rw n (record { left = l .0; near = chain-first (l .0 .chain); range = f .near; same = rw (l .1, t, o) at (f .same) })
+    rw (n .known ne) (record { left = l .0; near = chain-first (l .0 .chain); range = f .near; same = rw (l .1, t, o) at (f .same) })
 
 pub find-less
     : {z : Sizes} {m : Memory} {k prev link link′ : ℕ}
     → Finding z m k prev link
     → (link ≡ 0 → ⊥)
-    → link′ ≡ m fields.timerNext (link - 1)
+    → NextOf m link link′
     → length (fromLink z m link′) < length (fromLink z m link)
-find-less {z} {m} {k} {prev} {link} {link′} f ne n = rw (n, next-left (f .left) ne .1) (omega arith)
+find-less {z} {m} {k} {prev} {link} {link′} f ne n = rw (n .known ne, next-left (f .left) ne .1) (omega arith)
 
 -- The two ways out: at the end, and before the first later timer.
 pub find-end : {z : Sizes} {m : Memory} {k prev link : ℕ} → Finding z m k prev link → link ≡ 0 → Found z m k prev
@@ -122,9 +135,9 @@ pub find-stop
     : {z : Sizes} {m : Memory} {k prev link key : ℕ}
     → Finding z m k prev link
     → (link ≡ 0 → ⊥)
-    → key ≡ m fields.deadline (link - 1)
+    → DeadlineOf m link key
     → k < key
     → Found z m k prev
-find-stop {z} {m} {k} {prev} {link} {key} f ne e h =
-    let t : ltb k (m fields.deadline (link - 1)) ≡ true = lt-ltb k (m fields.deadline (link - 1)) (rw e at h) in
+find-stop {z} {m} {k} {prev} {link} {key} f ne d h =
+    let t : ltb k (m fields.deadline (link - 1)) ≡ true = lt-ltb k (m fields.deadline (link - 1)) (rw (d .known ne) at h) in
     record { spot = rw (next-left (f .left) ne .1, t) at (f .same); range = f .range }

@@ -58,7 +58,7 @@ pub queued-machine : (z : Sizes) (m : Memory) → machineOf (sizesIn z) m .queue
 unfolding machineOf
 queued-machine z m = refl
 
--- What the helpers ask: the sizes are in range, the bytes long enough, the link and the timer in range.
+-- What `link_in` and `link_out` ask: the sizes are in range, the bytes long enough, the link and the timer in range.
 pub record LinkAsks (z : Sizes) (s : List ℕ) (at t : ℕ) : Type 0 where
   pub sizes : SizesInRange (sizesIn z)
   pub long : totalIn z ≤ length s

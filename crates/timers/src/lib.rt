@@ -2,28 +2,59 @@
 use state::Index;
 use state::Sizes;
 ghost use Rattle.state.specs.Places.{memIn, Wrote};
-ghost use Rattle.timers.specs.Find.{TimersIn, Found};
+ghost use Rattle.timers.specs.Find.{TimersIn, Found, DeadlineOf, NextOf};
+ghost use Rattle.timers.specs.Read.{Origin, ReadAsks};
 ghost use Rattle.timers.specs.Insert.{linkStores, LinkAsks, InsertAsks, Inserted};
 ghost use Rattle.timers.specs.Seek.{Sought};
 ghost use Rattle.timers.specs.Remove.{outStores, RemoveAsks, Removed};
+
+// The bytes of a timer's record, and where in it the link to the next one lies.
+const STRIDE: usize = 24;
+
+const LINK: usize = 18;
+
+// Where the record of link 0 would lie, were there one: that of link n lies n records further on.
+fn origin(z: Sizes) -> usize
+    ensures { λ r. ⌜ Origin z r ⌝ }
+{
+    state::start_of(z, state::TIMER) - STRIDE
+}
+
+// The deadline in the record of a link; any number for link 0.
+fn deadline_at(s: &[u8], z: Sizes, from: usize, link: usize) -> u64
+    requires { ⌜ ReadAsks z (now s) from link ⌝ }
+    ensures { λ r. ⌜ DeadlineOf (memIn z (now (s .entry))) link r ⌝ }
+{
+    memory::load64(s, from + link * STRIDE)
+}
+
+// The link in the record of a link; any number for link 0.
+fn next_at(s: &[u8], z: Sizes, from: usize, link: usize) -> usize
+    requires { ⌜ ReadAsks z (now s) from link ⌝ }
+    ensures { λ r. ⌜ NextOf (memIn z (now (s .entry))) link r ⌝ }
+{
+    memory::load16(s, from + link * STRIDE + LINK) as usize
+}
 
 // The link behind which a timer with this deadline goes, 0 for the front: at the end, or before the first later timer.
 pub fn find_before(s: &[u8], z: Sizes, deadline: u64) -> Index
     requires { ⌜ TimersIn z (now s) ⌝ }
     ensures { λ r. ⌜ Found z (memIn z (now (s .entry))) deadline r ⌝ }
 {
-    let mut prev: Index = 0;
-    let mut link = state::get16(s, z, state::HEADER, state::TIMER_HEAD, 0);
+    let from = origin(z);
+    let mut prev: usize = 0;
+    let mut link = state::get16(s, z, state::HEADER, state::TIMER_HEAD, 0) as usize;
+    let mut key = deadline_at(s, z, from, link);
     let at = loop {
         if link == 0 {
-            break prev;
+            break prev as Index;
         }
-        let key = state::get64(s, z, state::TIMER, state::DEADLINE, link - 1);
         if deadline < key {
-            break prev;
+            break prev as Index;
         }
         prev = link;
-        link = state::get16(s, z, state::TIMER, state::TIMER_NEXT, link - 1);
+        link = next_at(s, z, from, link);
+        key = deadline_at(s, z, from, link);
     };
     at
 }
@@ -60,17 +91,24 @@ fn find_link(s: &[u8], z: Sizes, t: Index) -> Index
     requires { ⌜ TimersIn z (now s) ⌝ }
     ensures { λ r. ⌜ Sought z (memIn z (now (s .entry))) t r ⌝ }
 {
-    let mut prev: Index = 0;
-    let mut link = state::get16(s, z, state::HEADER, state::TIMER_HEAD, 0);
+    let from = origin(z);
+    let mine = t as usize + 1;
+    let mut link = state::get16(s, z, state::HEADER, state::TIMER_HEAD, 0) as usize;
+    if link == 0 {
+        return 0;
+    }
+    if link == mine {
+        return 0;
+    }
     let at = loop {
-        if link == 0 {
-            break prev;
+        let next = next_at(s, z, from, link);
+        if next == 0 {
+            break link as Index;
         }
-        if link - 1 == t {
-            break prev;
+        if next == mine {
+            break link as Index;
         }
-        prev = link;
-        link = state::get16(s, z, state::TIMER, state::TIMER_NEXT, link - 1);
+        link = next;
     };
     at
 }

@@ -30,6 +30,7 @@ use Rattle.waitq.specs.Messages.{messageStores, messageMem}
 use Rattle.waitq.specs.WriteCode.{WriteAsks, MessageIn}
 use Rattle.waitq.specs.Marks.{used-cells, changed-keeps}
 use Rattle.waitq.specs.Add.{addStores, addMem, add-same, add-changed, add-machine, add-but, add-owned}
+use Rattle.waitq.specs.InUse.{add-in-use}
 use Rattle.waitq.specs.Added.{AddAsks, cellFor, AddDone}
 
 module _ {z : Sizes} {s : List ℕ} {i : ℕ} (a : AddAsks z s i) where
@@ -154,6 +155,7 @@ module _ {z : Sizes} {s : List ℕ} {i : ℕ} (a : AddAsks z s i) where
             machine =
                 ap (machineOf (sizesIn z)) memory-then
                 ∙ add-machine (message name pid status) (holds-bounds (a .holds)) (a .holds .keeps .cells) here pid;
+            inUse = add-in-use (z .cells) i c pid (message name pid status) (here .short) (a .used);
           }
 
       the-cell : c ≡ cellFor z s

@@ -18,6 +18,7 @@ use Rattle.state.specs.declared.Sizes.{Sizes}
 use Rattle.exact.specs.Bounds.{inside}
 use Rattle.holds.specs.Holds.{Holds}
 use Rattle.holds.specs.Whole.{holds-bounds}
+use Rattle.holds.specs.Use.{EachInUse, none, Fewer, fewer-same, same-use, fewer-join, between-first, in-use-join}
 use Rattle.holds.specs.Did.{Did, writesIn, WritableIn, writable-join, machineIn, same}
 use Rattle.waitq.specs.Change.{Changed}
 use Rattle.waitq.specs.Join.{changed-join, changed-none}
@@ -49,6 +50,7 @@ pub record ClearDone (z : Sizes) (s s′ : List ℕ) (i : ℕ) : Type 0 where
       (withProcess i (withExits [] (process (machineIn z s) i)) (machineIn z s))
   pub number : memIn z s′ fields.nexits i ≡ 0
   pub changed : Changed (sizesIn z) (memIn z s) (memIn z s′) i []
+  pub fewer : Fewer z (memIn z s) (memIn z s′)
 
 -- As it goes: k are left.
 pub record Clearing (z : Sizes) (s₀ s : List ℕ) (i k : ℕ) : Type 0 where
@@ -61,6 +63,8 @@ pub record Clearing (z : Sizes) (s₀ s : List ℕ) (i k : ℕ) : Type 0 where
   pub writable : WritableIn z (takesStores (z .cells) (memIn z s₀ fields.nexits i - k) (memIn z s₀) i)
   pub memory : memIn z s ≡ takesMem (z .cells) (memIn z s₀ fields.nexits i - k) (memIn z s₀) i
   pub changed : Changed (sizesIn z) (memIn z s₀) (memIn z s) i (exitList (memIn z s) i)
+  pub inUse : EachInUse z (memIn z s₀) (memIn z s) (takesStores (z .cells) (memIn z s₀ fields.nexits i - k) (memIn z s₀) i)
+  pub fewer : Fewer z (memIn z s₀) (memIn z s)
 
 pub clear-reach : {z : Sizes} {s : List ℕ} {i : ℕ} → ClearAsks z s i → ReachIn z s (slot 1 36 1) i
 clear-reach a = nexits-reach (holds-cells (a .holds)) (a .used)
@@ -79,6 +83,8 @@ clear-start {z} {s} {i} {k} a e =
       writable = rw d tt;
       memory = rw d;
       changed = changed-none (holds-bounds (a .holds)) (a .holds .keeps .cells) (a .used);
+      inUse = rw d none;
+      fewer = fewer-same (same-use refl refl refl refl);
     }
 
 pub clear-take : {z : Sizes} {s₀ s : List ℕ} {i k : ℕ} → Clearing z s₀ s i k → 0 < k → TakeAsks z s i
@@ -105,6 +111,10 @@ clear-step {z} {s₀} {s} {s′} {i} {k} {k′} {r} c l t e =
     let g : Changed (sizesIn z) (memIn z s) (memIn z s′) i (exitList (memIn z s′) i) =
     subst (λ (ys : List ℕ). Changed (sizesIn z) (memIn z s) (memIn z s′) i ys) (sym (t .changed .list)) (t .changed)
     in
+    let w : takeStores (z .cells) (memIn z s) i (r - 1) ≡ takeStores (z .cells) m i (m fields.exits i - 1) =
+    ap₂ (λ (y : Memory) (x : ℕ). takeStores (z .cells) y i x) (c .memory) f
+    in
+    let u : EachInUse z (memIn z s) (memIn z s′) (takeStores (z .cells) (memIn z s) i (r - 1)) = rw (t .did .memory) (t .did .inUse) in
     record {
       asks =
           record {
@@ -122,7 +132,7 @@ clear-step {z} {s₀} {s} {s′} {i} {k} {k′} {r} c l t e =
       bytes =
           rw q
           (t .did .bytes
-          ∙ ap₂ (λ (y : Memory) (x : ℕ). writesIn z s (takeStores (z .cells) y i x)) (c .memory) f
+          ∙ ap (writesIn z s) w
           ∙ ap (λ (x : List ℕ). writesIn z x (takeStores (z .cells) m i (m fields.exits i - 1))) (c .bytes)
           ∙ sym
           (writes-join fields.layout1 (fields.counts (sizesIn z)) s₀ (takesStores (z .cells) (N - k) (memIn z s₀) i)
@@ -130,9 +140,13 @@ clear-step {z} {s₀} {s} {s′} {i} {k} {k′} {r} c l t e =
       writable =
           rw q
           (writable-join z (takesStores (z .cells) (N - k) (memIn z s₀) i) (takeStores (z .cells) m i (m fields.exits i - 1)) (c .writable)
-          (subst (WritableIn z) (ap₂ (λ (y : Memory) (x : ℕ). takeStores (z .cells) y i x) (c .memory) f) (t .did .writable)));
+          (subst (WritableIn z) w (t .did .writable)));
       memory = rw q (t .did .memory ∙ ap₂ (λ (y : Memory) (x : ℕ). takeMem (z .cells) y i x) (c .memory) f);
       changed = changed-join (inside (holds-bounds (c .asks .holds)) fields.pid i (c .asks .used)) (c .changed) g;
+      inUse =
+          rw q
+          (in-use-join (between-first (c .fewer)) (c .inUse) (subst (EachInUse z (memIn z s) (memIn z s′)) w u));
+      fewer = fewer-join (c .fewer) (t .fewer);
     }
 
 none-left : (xs : List ℕ) → length xs ≡ 0 → xs ≡ []
@@ -155,7 +169,9 @@ clear-end {z} {s₀} {s} {i} {k} c l =
             writable = rw q at (c .writable);
             memory = rw q at (c .memory);
             machine = d .machine;
+            inUse = subst (λ (x : Memory). EachInUse z m x (takesStores (z .cells) (m fields.nexits i) m i)) (rw q at (c .memory)) (rw q at (c .inUse));
           };
       number = omega (arith, c .left, l);
       changed = d;
+      fewer = c .fewer;
     }

@@ -13,8 +13,9 @@ pub mod Wait
 pub mod WaitCode
 pub mod Marks
 pub mod Take
+pub mod Add
+pub mod InUse
 pub mod TakeCode
 pub mod Clear
-pub mod Add
 pub mod Added
 pub mod AddCode

@@ -15,6 +15,7 @@ use Rattle.state.specs.Places.{sizesIn, memIn, ReachIn, Wrote, wrote-join}
 use Rattle.state.specs.WellFormed.{Used, Cells, Index}
 use Rattle.state.specs.declared.Sizes.{Sizes}
 use Rattle.holds.specs.Whole.{holds-bounds}
+use Rattle.holds.specs.Use.{Fewer}
 use Rattle.holds.specs.Did.{WritableIn, writable-join}
 use Rattle.free.specs.Asks.{cells-in}
 use Rattle.free.specs.UseCell.{dropCellWrites, dropCellMem, DropCellAsks, DropCellDone, drop-cell-asks}
@@ -27,6 +28,7 @@ use Rattle.waitq.specs.Pop.{unlinkStores, popStores, popMem}
 use Rattle.waitq.specs.PopCode.{PopAsks, PopDone, pop-some, pop-cell, pop-owned}
 use Rattle.waitq.specs.Marks.{dropped-same, dropped-cells, dropped-changed, changed-keeps, holds-cells}
 use Rattle.waitq.specs.Take.{takeStores, takeMem, TakeAsks, TakeDone}
+use Rattle.waitq.specs.InUse.{take-in-use, take-fewer}
 
 -- `pop_exit` changes no word, and of the owners only the cell's.
 pop-but : (m : Memory) (i c : ℕ) → ButOwner m (popMem m i c) c
@@ -160,10 +162,12 @@ module _ {z : Sizes} {s : List ℕ} {i : ℕ} (a : TakeAsks z s i) where
                     (taken .writable);
                 memory = memory-then;
                 machine = taken .machine;
+                inUse = take-in-use (z .cells) i (r - 1) (rw the-link (owned e)) (a .used);
               };
           link = taken .link;
           range = p .range;
           list = taken .list;
           changed = taken .changed;
           newest = taken .newest;
+          fewer = subst (Fewer z (memIn z s)) (sym memory-then) (take-fewer (z .cells) i (r - 1));
         }

@@ -5,32 +5,17 @@ use Rattle.decode.specs.Others.{high-none}
 use Rattle.decode.proofs.high.Statement.{statement}
 use Rattle.decode.proofs.high.Tie as tie
 
+tadd-requires : tie.Need-tadd-requires
+tadd-requires c κs = search has-number
+
 number-requires : tie.Need-number-requires
 number-requires c κs = search has-number
 
 number-requires-2 : tie.Need-number-requires-2
 number-requires-2 c κs = search has-number
 
-number-requires-3 : tie.Need-number-requires-3
-number-requires-3 c κs = search has-number
-
-number-requires-4 : tie.Need-number-requires-4
-number-requires-4 c κs = search has-number
-
-number-requires-5 : tie.Need-number-requires-5
-number-requires-5 c κs = search has-number
-
-number-requires-6 : tie.Need-number-requires-6
-number-requires-6 c κs = search has-number
-
-number-requires-7 : tie.Need-number-requires-7
-number-requires-7 c κs = search has-number
-
-number-requires-8 : tie.Need-number-requires-8
-number-requires-8 c κs = search has-number
-
-sub-t13 : tie.Need-sub-t13
-sub-t13 c = search has-string
+sub-t8 : tie.Need-sub-t8
+sub-t8 c = search has-string
 
 returns : tie.Need-returns
 returns c = search read-tadd
@@ -57,15 +42,10 @@ pub high-spec : {M : Type 1} → statement M
 high-spec =
     tie.close
     (tie.spec
+    tadd-requires
     number-requires
     number-requires-2
-    number-requires-3
-    number-requires-4
-    number-requires-5
-    number-requires-6
-    number-requires-7
-    number-requires-8
-    sub-t13
+    sub-t8
     returns
     returns-2
     returns-3

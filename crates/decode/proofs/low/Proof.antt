@@ -23,20 +23,8 @@ number-requires-4 c κs = search has-number
 number-requires-5 : tie.Need-number-requires-5
 number-requires-5 c κs = search has-number
 
-number-requires-6 : tie.Need-number-requires-6
-number-requires-6 c κs = search has-number
-
-number-requires-7 : tie.Need-number-requires-7
-number-requires-7 c κs = search has-number
-
-number-requires-8 : tie.Need-number-requires-8
-number-requires-8 c κs = search has-number
-
-number-requires-9 : tie.Need-number-requires-9
-number-requires-9 c κs = search has-number
-
-number-requires-10 : tie.Need-number-requires-10
-number-requires-10 c κs = search has-number
+tsleep-requires : tie.Need-tsleep-requires
+tsleep-requires c κs = search has-number
 
 returns : tie.Need-returns
 returns c = search read-start
@@ -72,11 +60,7 @@ low-spec =
     sub-t8
     number-requires-4
     number-requires-5
-    number-requires-6
-    number-requires-7
-    number-requires-8
-    number-requires-9
-    number-requires-10
+    tsleep-requires
     returns
     returns-2
     returns-3

@@ -8,25 +8,19 @@ use Rattle.listing.proofs.feed.Statement.{statement}
 use Rattle.listing.proofs.feed.Tie as tie
 
 abbrev Inv-loop : tie.InvT-loop
-Inv-loop s₀ z chunk held₀ b₀ message₀ out₀ most at₀ s held b message out at = Feeding z chunk s₀ held₀ out₀ at₀ s held b message out at
+Inv-loop s₀ z chunk held₀ b₀ message₀ out₀ at₀ s held b message out at = Feeding z chunk s₀ held₀ out₀ at₀ s held b message out at
 
 abbrev μ-loop : tie.MeasureT-loop
-μ-loop s₀ z chunk held₀ b₀ message₀ out₀ most at₀ s held b message out at = length chunk - at .from
-
-cast-most : tie.Need-cast-most Inv-loop μ-loop
-cast-most c = search needs
-
-mul-most : tie.Need-mul-most Inv-loop μ-loop
-mul-most c = search needs
-
-add-most : tie.Need-add-most Inv-loop μ-loop
-add-most c = search needs
+μ-loop s₀ z chunk held₀ b₀ message₀ out₀ at₀ s held b message out at = length chunk - at .from
 
 loop-holds : tie.Need-loop-holds Inv-loop μ-loop
 loop-holds c = search feed-start
 
 sub-if2 : tie.Need-sub-if2 Inv-loop μ-loop
 sub-if2 c = search needs
+
+most-requires : tie.Need-most-requires Inv-loop μ-loop
+most-requires c κs = search needs
 
 same-length : tie.Need-same-length Inv-loop μ-loop
 same-length c = search needs
@@ -47,14 +41,18 @@ returns : tie.Need-returns Inv-loop μ-loop
 returns c = search feed-full
 
 turn-requires : tie.Need-turn-requires Inv-loop μ-loop
-turn-requires c κs = search feed-turn
+turn-requires c κs =
+    feed-turn (c .before .before .before .before .before .before .before .before .before .before .loop .inv)
+    (omega arith)
+    (c .before .before .before .before .before .before .most .ensures)
+    (omega arith)
 
 loop-less : tie.Need-loop-less Inv-loop μ-loop
 loop-less c = search needs
 
 loop-again : tie.Need-loop-again Inv-loop μ-loop
 loop-again c =
-    feed-more (c .before .before .before .before .before .before .before .before .before .before .before .before .before .before .before .before .before .before .before .before .loop .inv)
+    feed-more (c .before .before .before .before .before .before .before .before .before .before .before .before .before .before .before .before .before .before .before .before .before .loop .inv)
     (c .before .before .before .before .before .before .before .before .before .before .turn .ensures)
     (omega arith)
     (omega arith)
@@ -85,11 +83,9 @@ feed-spec =
     (tie.spec
     Inv-loop
     μ-loop
-    cast-most
-    mul-most
-    add-most
     loop-holds
     sub-if2
+    most-requires
     same-length
     same-length-2
     same-length-3

@@ -8,27 +8,21 @@ use Rattle.proc.proofs.canqlock.Reads as reads
 use Rattle.proc.proofs.canqlock.Lts as lts
 use Rattle.proc_wake.proofs.canqlock.Reads as canqlock-reads
 
--- src/lib.rt:134:16
 cast-if1 : tie.Need-cast-if1
 cast-if1 c = search needs
 
--- src/lib.rt:135:9
 returns : tie.Need-returns
 returns c = search canqlock-outside
 
--- src/lib.rt:137:31
 cast-canqlock : tie.Need-cast-canqlock
 cast-canqlock c = search needs
 
--- src/lib.rt:137:5
 canqlock-requires : tie.Need-canqlock-requires
 canqlock-requires c κs = search needs
 
--- src/lib.rt:130:1
 same-length : tie.Need-same-length
 same-length c = search needs
 
--- src/lib.rt:130:1
 returns-2 : tie.Need-returns-2
 returns-2 c = search took-plain
 

@@ -8,27 +8,21 @@ use Rattle.proc.proofs.cond.Reads as reads
 use Rattle.proc.proofs.cond.Lts as lts
 use Rattle.proc_wake.proofs.cond.Reads as cond-reads
 
--- src/lib.rt:157:9
 returns : tie.Need-returns
 returns c = search cond-condition
 
--- src/lib.rt:160:9
 returns-2 : tie.Need-returns-2
 returns-2 c = search cond-value
 
--- src/lib.rt:162:27
 cast-cond : tie.Need-cast-cond
 cast-cond c = search needs
 
--- src/lib.rt:162:5
 cond-requires : tie.Need-cond-requires
 cond-requires c κs = search needs
 
--- src/lib.rt:152:1
 same-length : tie.Need-same-length
 same-length c = search needs
 
--- src/lib.rt:152:1
 returns-3 : tie.Need-returns-3
 returns-3 c = search cond-plain
 

@@ -7,19 +7,15 @@ use Rattle.proc.proofs.name.Reads as reads
 use Rattle.proc.proofs.name.Lts as lts
 use Rattle.proc_fork.proofs.name.Reads as name-reads
 
--- src/lib.rt:50:9
 returns : tie.Need-returns
 returns c = search name-outside
 
--- src/lib.rt:52:5
 name-requires : tie.Need-name-requires
 name-requires c κs = search needs
 
--- src/lib.rt:45:1
 same-length : tie.Need-same-length
 same-length c = search needs
 
--- src/lib.rt:45:1
 returns-2 : tie.Need-returns-2
 returns-2 c = search needs
 

@@ -7,27 +7,21 @@ use Rattle.proc.proofs.qlock.Reads as reads
 use Rattle.proc.proofs.qlock.Lts as lts
 use Rattle.proc_sleep.proofs.qlock.Reads as qlock-reads
 
--- src/lib.rt:123:16
 cast-if1 : tie.Need-cast-if1
 cast-if1 c = search needs
 
--- src/lib.rt:124:9
 returns : tie.Need-returns
 returns c = search qlock-outside
 
--- src/lib.rt:126:37
 cast-qlock : tie.Need-cast-qlock
 cast-qlock c = search needs
 
--- src/lib.rt:126:5
 qlock-requires : tie.Need-qlock-requires
 qlock-requires c κs = search needs
 
--- src/lib.rt:119:1
 same-length : tie.Need-same-length
 same-length c = search needs
 
--- src/lib.rt:119:1
 returns-2 : tie.Need-returns-2
 returns-2 c = search needs
 

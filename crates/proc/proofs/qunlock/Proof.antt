@@ -8,27 +8,21 @@ use Rattle.proc.proofs.qunlock.Reads as reads
 use Rattle.proc.proofs.qunlock.Lts as lts
 use Rattle.proc_wake.proofs.qunlock.Reads as qunlock-reads
 
--- src/lib.rt:145:16
 cast-if1 : tie.Need-cast-if1
 cast-if1 c = search needs
 
--- src/lib.rt:146:9
 returns : tie.Need-returns
 returns c = search qunlock-outside
 
--- src/lib.rt:148:30
 cast-qunlock : tie.Need-cast-qunlock
 cast-qunlock c = search needs
 
--- src/lib.rt:148:5
 qunlock-requires : tie.Need-qunlock-requires
 qunlock-requires c κs = search needs
 
--- src/lib.rt:141:1
 same-length : tie.Need-same-length
 same-length c = search needs
 
--- src/lib.rt:141:1
 returns-2 : tie.Need-returns-2
 returns-2 c = search took-plain
 

@@ -7,31 +7,24 @@ use Rattle.proc.proofs.rfork.Reads as reads
 use Rattle.proc.proofs.rfork.Lts as lts
 use Rattle.proc_fork.proofs.rfork.Reads as rfork-reads
 
--- src/lib.rt:36:9
 returns : tie.Need-returns
 returns c = search rfork-flags
 
--- src/lib.rt:39:9
 returns-2 : tie.Need-returns-2
 returns-2 c = search rfork-how
 
--- src/lib.rt:41:36
 cast-rfork : tie.Need-cast-rfork
 cast-rfork c = search needs
 
--- src/lib.rt:41:50
 cast-rfork-2 : tie.Need-cast-rfork-2
 cast-rfork-2 c = search needs
 
--- src/lib.rt:41:5
 rfork-requires : tie.Need-rfork-requires
 rfork-requires c κs = search needs
 
--- src/lib.rt:31:1
 same-length : tie.Need-same-length
 same-length c = search needs
 
--- src/lib.rt:31:1
 returns-3 : tie.Need-returns-3
 returns-3 c = search needs
 

@@ -7,23 +7,18 @@ use Rattle.proc.proofs.start.Reads as reads
 use Rattle.proc.proofs.start.Lts as lts
 use Rattle.proc_start.proofs.start.Reads as start-reads
 
--- src/lib.rt:25:9
 returns : tie.Need-returns
 returns c = search start-outside
 
--- src/lib.rt:27:37
 cast-start : tie.Need-cast-start
 cast-start c = search needs
 
--- src/lib.rt:27:5
 start-requires : tie.Need-start-requires
 start-requires c κs = search needs
 
--- src/lib.rt:20:1
 same-length : tie.Need-same-length
 same-length c = search needs
 
--- src/lib.rt:20:1
 returns-2 : tie.Need-returns-2
 returns-2 c = search needs
 

@@ -9,27 +9,21 @@ use Rattle.proc.proofs.take.Lts as lts
 use Rattle.decode.proofs.decode.Reads as decode-reads
 use Rattle.proc.proofs.take_call.Reads as take-call-reads
 
--- src/lib.rt:298:9
 returns : tie.Need-returns
 returns c = search taken-short
 
--- src/lib.rt:300:9
 decode-requires : tie.Need-decode-requires
 decode-requires c κs = search needs
 
--- src/lib.rt:303:5
 take-call-requires : tie.Need-take-call-requires
 take-call-requires c κs = search needs
 
--- src/lib.rt:293:1
 same-length : tie.Need-same-length
 same-length c = search needs
 
--- src/lib.rt:293:1
 same-length-2 : tie.Need-same-length-2
 same-length-2 c = search needs
 
--- src/lib.rt:293:1
 returns-2 : tie.Need-returns-2
 returns-2 c = search take-took
 

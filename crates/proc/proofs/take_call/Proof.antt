@@ -3,369 +3,262 @@ use Rattle.proc.specs.Arms.{call-canqlock, call-clock, call-cond, call-d
 use borrow.Author.Needs.{needs}
 use Rattle.proc.proofs.take_call.Statement.{statement}
 use Rattle.proc.proofs.take_call.Tie as tie
-use Rattle.proc.proofs.take_call.Reads as reads
-use Rattle.proc.proofs.take_call.Lts as lts
-use Rattle.proc.proofs.canqlock.Reads as canqlock-reads
-use Rattle.proc.proofs.cond.Reads as cond-reads
-use Rattle.proc.proofs.name.Reads as name-reads
-use Rattle.proc.proofs.qlock.Reads as qlock-reads
-use Rattle.proc.proofs.qunlock.Reads as qunlock-reads
-use Rattle.proc.proofs.rfork.Reads as rfork-reads
-use Rattle.proc.proofs.sleep.Reads as sleep-reads
-use Rattle.proc.proofs.start.Reads as start-reads
-use Rattle.proc.proofs.tadd.Reads as tadd-reads
-use Rattle.proc.proofs.tdel.Reads as tdel-reads
-use Rattle.proc.proofs.tsleep.Reads as tsleep-reads
-use Rattle.proc.proofs.wakeup.Reads as wakeup-reads
-use Rattle.proc_exit.proofs.exit.Reads as exit-reads
-use Rattle.proc_intr.proofs.intr.Reads as intr-reads
-use Rattle.proc_sched.proofs.sched.Reads as sched-reads
-use Rattle.proc_sleep.proofs.yield_now.Reads as yield-now-reads
-use Rattle.proc_timer.proofs.clock.Reads as clock-reads
-use Rattle.proc_wait.proofs.wait.Reads as wait-reads
-use Rattle.proc_wake.proofs.due.Reads as due-reads
 
--- src/lib.rt:238:23
 enum-told : tie.Need-enum-told
 enum-told c = search needs
 
--- src/lib.rt:239:23
 enum-known-call : tie.Need-enum-known-call
 enum-known-call c = search needs
 
--- src/lib.rt:239:32
 start-requires : tie.Need-start-requires
 start-requires c κs = search needs
 
--- src/lib.rt:240:23
 enum-known-call-2 : tie.Need-enum-known-call-2
 enum-known-call-2 c = search needs
 
--- src/lib.rt:240:39
 rfork-requires : tie.Need-rfork-requires
 rfork-requires c κs = search needs
 
--- src/lib.rt:241:42
 enum-told-2 : tie.Need-enum-told-2
 enum-told-2 c = search needs
 
--- src/lib.rt:241:56
 sub-name : tie.Need-sub-name
 sub-name c = search name-long
 
--- src/lib.rt:241:56
 part-name-start : tie.Need-part-name-start
 part-name-start c = search name-long
 
--- src/lib.rt:241:56
 part-name-end : tie.Need-part-name-end
 part-name-end c = search needs
 
--- src/lib.rt:241:37
 name-requires : tie.Need-name-requires
 name-requires c κs = search needs
 
--- src/lib.rt:242:42
 enum-told-3 : tie.Need-enum-told-3
 enum-told-3 c = search needs
 
--- src/lib.rt:242:24
 sched-requires : tie.Need-sched-requires
 sched-requires c κs = search needs
 
--- src/lib.rt:243:46
 enum-told-4 : tie.Need-enum-told-4
 enum-told-4 c = search needs
 
--- src/lib.rt:243:24
 yield-now-requires : tie.Need-yield-now-requires
 yield-now-requires c κs = search needs
 
--- src/lib.rt:244:23
 enum-known-call-3 : tie.Need-enum-known-call-3
 enum-known-call-3 c = search needs
 
--- src/lib.rt:244:46
 sleep-requires : tie.Need-sleep-requires
 sleep-requires c κs = search needs
 
--- src/lib.rt:246:13
 enum-known-call-4 : tie.Need-enum-known-call-4
 enum-known-call-4 c = search needs
 
--- src/lib.rt:251:14
 tsleep-requires : tie.Need-tsleep-requires
 tsleep-requires c κs = search needs
 
--- src/lib.rt:261:24
 enum-known-call-5 : tie.Need-enum-known-call-5
 enum-known-call-5 c = search needs
 
--- src/lib.rt:261:36
 wakeup-requires : tie.Need-wakeup-requires
 wakeup-requires c κs = search needs
 
--- src/lib.rt:262:23
 enum-known-call-6 : tie.Need-enum-known-call-6
 enum-known-call-6 c = search needs
 
--- src/lib.rt:262:33
 qlock-requires : tie.Need-qlock-requires
 qlock-requires c κs = search needs
 
--- src/lib.rt:263:26
 enum-known-call-7 : tie.Need-enum-known-call-7
 enum-known-call-7 c = search needs
 
--- src/lib.rt:263:36
 canqlock-requires : tie.Need-canqlock-requires
 canqlock-requires c κs = search needs
 
--- src/lib.rt:264:25
 enum-known-call-8 : tie.Need-enum-known-call-8
 enum-known-call-8 c = search needs
 
--- src/lib.rt:264:35
 qunlock-requires : tie.Need-qunlock-requires
 qunlock-requires c κs = search needs
 
--- src/lib.rt:265:22
 enum-known-call-9 : tie.Need-enum-known-call-9
 enum-known-call-9 c = search needs
 
--- src/lib.rt:265:44
 cond-requires : tie.Need-cond-requires
 cond-requires c κs = search needs
 
--- src/lib.rt:266:23
 enum-known-call-10 : tie.Need-enum-known-call-10
 enum-known-call-10 c = search needs
 
--- src/lib.rt:266:36
 clock-requires : tie.Need-clock-requires
 clock-requires c κs = search needs
 
--- src/lib.rt:268:13
 enum-known-call-11 : tie.Need-enum-known-call-11
 enum-known-call-11 c = search needs
 
--- src/lib.rt:274:14
 tadd-requires : tie.Need-tadd-requires
 tadd-requires c κs = search needs
 
--- src/lib.rt:285:22
 enum-known-call-12 : tie.Need-enum-known-call-12
 enum-known-call-12 c = search needs
 
--- src/lib.rt:285:33
 tdel-requires : tie.Need-tdel-requires
 tdel-requires c κs = search needs
 
--- src/lib.rt:286:22
 enum-known-call-13 : tie.Need-enum-known-call-13
 enum-known-call-13 c = search needs
 
--- src/lib.rt:286:35
 intr-requires : tie.Need-intr-requires
 intr-requires c κs = search needs
 
--- src/lib.rt:287:37
 enum-told-5 : tie.Need-enum-told-5
 enum-told-5 c = search needs
 
--- src/lib.rt:287:22
 due-requires : tie.Need-due-requires
 due-requires c κs = search needs
 
--- src/lib.rt:288:53
 enum-told-6 : tie.Need-enum-told-6
 enum-told-6 c = search needs
 
--- src/lib.rt:288:67
 sub-exit : tie.Need-sub-exit
 sub-exit c = search exit-long
 
--- src/lib.rt:288:67
 part-exit-start : tie.Need-part-exit-start
 part-exit-start c = search exit-long
 
--- src/lib.rt:288:67
 part-exit-end : tie.Need-part-exit-end
 part-exit-end c = search needs
 
--- src/lib.rt:288:37
 exit-requires : tie.Need-exit-requires
 exit-requires c κs = search needs
 
--- src/lib.rt:289:39
 enum-told-7 : tie.Need-enum-told-7
 enum-told-7 c = search needs
 
--- src/lib.rt:289:23
 wait-requires : tie.Need-wait-requires
 wait-requires c κs = search needs
 
--- src/lib.rt:226:1
 returns : tie.Need-returns
 returns c = search call-none
 
--- src/lib.rt:226:1
 same-length : tie.Need-same-length
 same-length c = search needs
 
--- src/lib.rt:226:1
 returns-2 : tie.Need-returns-2
 returns-2 c = search call-start
 
--- src/lib.rt:226:1
 same-length-2 : tie.Need-same-length-2
 same-length-2 c = search needs
 
--- src/lib.rt:226:1
 returns-3 : tie.Need-returns-3
 returns-3 c = search call-rfork
 
--- src/lib.rt:226:1
 same-length-3 : tie.Need-same-length-3
 same-length-3 c = search needs
 
--- src/lib.rt:226:1
 returns-4 : tie.Need-returns-4
 returns-4 c = search call-name
 
--- src/lib.rt:226:1
 same-length-4 : tie.Need-same-length-4
 same-length-4 c = search needs
 
--- src/lib.rt:226:1
 same-length-5 : tie.Need-same-length-5
 same-length-5 c = search needs
 
--- src/lib.rt:226:1
 returns-5 : tie.Need-returns-5
 returns-5 c = search call-sched
 
--- src/lib.rt:226:1
 same-length-6 : tie.Need-same-length-6
 same-length-6 c = search needs
 
--- src/lib.rt:226:1
 returns-6 : tie.Need-returns-6
 returns-6 c = search call-yield
 
--- src/lib.rt:226:1
 same-length-7 : tie.Need-same-length-7
 same-length-7 c = search needs
 
--- src/lib.rt:226:1
 returns-7 : tie.Need-returns-7
 returns-7 c = search call-sleep
 
--- src/lib.rt:226:1
 same-length-8 : tie.Need-same-length-8
 same-length-8 c = search needs
 
--- src/lib.rt:226:1
 returns-8 : tie.Need-returns-8
 returns-8 c = search call-tsleep
 
--- src/lib.rt:226:1
 same-length-9 : tie.Need-same-length-9
 same-length-9 c = search needs
 
--- src/lib.rt:226:1
 returns-9 : tie.Need-returns-9
 returns-9 c = search call-wakeup
 
--- src/lib.rt:226:1
 same-length-10 : tie.Need-same-length-10
 same-length-10 c = search needs
 
--- src/lib.rt:226:1
 returns-10 : tie.Need-returns-10
 returns-10 c = search call-qlock
 
--- src/lib.rt:226:1
 same-length-11 : tie.Need-same-length-11
 same-length-11 c = search needs
 
--- src/lib.rt:226:1
 returns-11 : tie.Need-returns-11
 returns-11 c = search call-canqlock
 
--- src/lib.rt:226:1
 same-length-12 : tie.Need-same-length-12
 same-length-12 c = search needs
 
--- src/lib.rt:226:1
 returns-12 : tie.Need-returns-12
 returns-12 c = search call-qunlock
 
--- src/lib.rt:226:1
 same-length-13 : tie.Need-same-length-13
 same-length-13 c = search needs
 
--- src/lib.rt:226:1
 returns-13 : tie.Need-returns-13
 returns-13 c = search call-cond
 
--- src/lib.rt:226:1
 same-length-14 : tie.Need-same-length-14
 same-length-14 c = search needs
 
--- src/lib.rt:226:1
 returns-14 : tie.Need-returns-14
 returns-14 c = search call-clock
 
--- src/lib.rt:226:1
 same-length-15 : tie.Need-same-length-15
 same-length-15 c = search needs
 
--- src/lib.rt:226:1
 returns-15 : tie.Need-returns-15
 returns-15 c = search call-tadd
 
--- src/lib.rt:226:1
 same-length-16 : tie.Need-same-length-16
 same-length-16 c = search needs
 
--- src/lib.rt:226:1
 returns-16 : tie.Need-returns-16
 returns-16 c = search call-tdel
 
--- src/lib.rt:226:1
 same-length-17 : tie.Need-same-length-17
 same-length-17 c = search needs
 
--- src/lib.rt:226:1
 returns-17 : tie.Need-returns-17
 returns-17 c = search call-intr
 
--- src/lib.rt:226:1
 same-length-18 : tie.Need-same-length-18
 same-length-18 c = search needs
 
--- src/lib.rt:226:1
 returns-18 : tie.Need-returns-18
 returns-18 c = search call-due
 
--- src/lib.rt:226:1
 same-length-19 : tie.Need-same-length-19
 same-length-19 c = search needs
 
--- src/lib.rt:226:1
 returns-19 : tie.Need-returns-19
 returns-19 c = search call-exit
 
--- src/lib.rt:226:1
 same-length-20 : tie.Need-same-length-20
 same-length-20 c = search needs
 
--- src/lib.rt:226:1
 same-length-21 : tie.Need-same-length-21
 same-length-21 c = search needs
 
--- src/lib.rt:226:1
 returns-20 : tie.Need-returns-20
 returns-20 c = search call-wait
 

@@ -8,27 +8,21 @@ use Rattle.proc.proofs.wakeup.Reads as reads
 use Rattle.proc.proofs.wakeup.Lts as lts
 use Rattle.proc_wake.proofs.wakeup.Reads as wakeup-reads
 
--- src/lib.rt:112:18
 cast-if1 : tie.Need-cast-if1
 cast-if1 c = search needs
 
--- src/lib.rt:113:9
 returns : tie.Need-returns
 returns c = search wakeup-outside
 
--- src/lib.rt:115:29
 cast-wakeup : tie.Need-cast-wakeup
 cast-wakeup c = search needs
 
--- src/lib.rt:115:5
 wakeup-requires : tie.Need-wakeup-requires
 wakeup-requires c κs = search needs
 
--- src/lib.rt:108:1
 same-length : tie.Need-same-length
 same-length c = search needs
 
--- src/lib.rt:108:1
 returns-2 : tie.Need-returns-2
 returns-2 c = search took-plain
 

@@ -31,11 +31,11 @@ same-length-3 c = search needs
 returns-4 : tie.Need-returns-4
 returns-4 c = search start-unmade
 
-orphan-requires : tie.Need-orphan-requires
-orphan-requires c κs = search needs
+newproc-requires : tie.Need-newproc-requires
+newproc-requires c κs = search needs
 
 begin-requires : tie.Need-begin-requires
-begin-requires c κs = start-begin (c .before .before .before .before .before .before .before .before .before .before .before .pre) (c .before .before .before .before .before .before .before .find-record .ensures) (c .before .before .before .before .before .before .if2 .left) (c .before .before .before .before .get64 .ensures) (c .before .before .before .if3 .left) (c .before .orphan .ensures)
+begin-requires c κs = start-begin (c .before .before .before .before .before .before .before .before .before .before .before .pre) (c .before .before .before .before .before .before .before .find-record .ensures) (c .before .before .before .before .before .before .if2 .left) (c .before .before .before .before .get64 .ensures) (c .before .before .before .if3 .left) (c .before .newproc .ensures)
 
 same-length-4 : tie.Need-same-length-4
 same-length-4 c = search needs
@@ -56,7 +56,7 @@ start-spec =
     returns-3
     same-length-3
     returns-4
-    orphan-requires
+    newproc-requires
     begin-requires
     same-length-4
     returns-5)

@@ -1,5 +1,5 @@
 -- `records::alloc` meets its contract: each need by its law.
-use Rattle.records.specs.Alloc.{alloc-adopt, alloc-find, alloc-none, alloc-one}
+use Rattle.records.specs.Alloc.{alloc-occupy, alloc-find, alloc-none, alloc-one}
 use borrow.Author.Needs.{needs}
 use Rattle.records.proofs.alloc.Statement.{statement}
 use Rattle.records.proofs.alloc.Tie as tie
@@ -16,11 +16,11 @@ returns c = search alloc-none
 next-pid-requires : tie.Need-next-pid-requires
 next-pid-requires c κs = search needs
 
-sub-adopt : tie.Need-sub-adopt
-sub-adopt c = search needs
+sub-occupy : tie.Need-sub-occupy
+sub-occupy c = search needs
 
-adopt-requires : tie.Need-adopt-requires
-adopt-requires c κs = search alloc-adopt
+occupy-requires : tie.Need-occupy-requires
+occupy-requires c κs = search alloc-occupy
 
 same-length-2 : tie.Need-same-length-2
 same-length-2 c = search needs
@@ -36,7 +36,7 @@ alloc-spec =
     same-length
     returns
     next-pid-requires
-    sub-adopt
-    adopt-requires
+    sub-occupy
+    occupy-requires
     same-length-2
     returns-2)

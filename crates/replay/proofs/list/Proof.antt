@@ -22,21 +22,13 @@ begin-requires c κs = search needs
 feed-requires : tie.Need-feed-requires
 feed-requires c κs = list-feeds (c .before .before .before .before .before .before .before .before .before .before .before .before .before .before .before .before .pre) (c .before .before .before .before .before .before .before .begin .ensures)
 
--- src/main.rt:104:28
-cast-most : tie.Need-cast-most
-cast-most c = search needs
-
--- src/main.rt:104:23
-mul-most : tie.Need-mul-most
-mul-most c = search needs
-
--- src/main.rt:104:16
-add-most : tie.Need-add-most
-add-most c = search needs
-
 -- src/main.rt:105:8
 sub-if2 : tie.Need-sub-if2
 sub-if2 c = search needs
+
+-- src/main.rt:105:8
+most-requires : tie.Need-most-requires
+most-requires c κs = search needs
 
 -- src/main.rt:106:9
 same-length : tie.Need-same-length
@@ -65,7 +57,7 @@ returns-2 c = search needs
 -- src/main.rt:108:5
 finish-requires : tie.Need-finish-requires
 finish-requires c κs =
-    list-finishes (c .before .before .before .before .before .before .before .before .before .before .before .before .before .before .before .before .before .before .feed .ensures) (search (needs, c .before .before .before .before .before .before .before .before .before .before .before .before .before .before .before .before .before .before .before .before .before .before .before .before .before .before .before .before .before .before .before .before .before .before .before .pre)) (search (needs, c .before .before .before .before .before .before .before .before .before .before .before .before .before .before .before .before .before .before .before .before .before .before .before .before .before .before .before .before .before .before .before .before .before .before .before .pre)) (search (needs, c .before .before .before .before .before .before .before .before .before .before .before .before .before .before .before .before .before .before .before .before .before .before .before .before .before .before .before .before .before .before .before .before .before .before .before .pre)) (c .before .before .before .before .before .if2 .left)
+    list-finishes (c .before .before .before .before .before .before .before .before .before .before .before .before .before .before .before .before .before .before .feed .ensures) (search (needs, c .before .before .before .before .before .before .before .before .before .before .before .before .before .before .before .before .before .before .before .before .before .before .before .before .before .before .before .before .before .before .before .before .before .before .before .pre)) (search (needs, c .before .before .before .before .before .before .before .before .before .before .before .before .before .before .before .before .before .before .before .before .before .before .before .before .before .before .before .before .before .before .before .before .before .before .before .pre)) (search (needs, c .before .before .before .before .before .before .before .before .before .before .before .before .before .before .before .before .before .before .before .before .before .before .before .before .before .before .before .before .before .before .before .before .before .before .before .pre)) (c .before .before .before .before .before .before .most .ensures) (c .before .before .before .before .before .if2 .left)
 
 -- src/main.rt:81:1
 same-length-6 : tie.Need-same-length-6
@@ -104,10 +96,8 @@ list-spec =
     returns
     begin-requires
     feed-requires
-    cast-most
-    mul-most
-    add-most
     sub-if2
+    most-requires
     same-length
     same-length-2
     same-length-3

@@ -1,42 +1,51 @@
--- `timers::find_before` meets its contract. The invariant: what is left is a chain, and its spot is the one looked for. The measure is the
--- length of what is left.
-use Rattle.timers.specs.Find.{Finding, fromLink, find-start, find-step, find-less, find-end, find-stop}
+-- `timers::find_before` meets its contract. The invariant: what is left is a chain, its spot is the one looked for, and the key is the deadline
+-- of its first. The measure is the length of what is left.
+use Rattle.timers.specs.Find.{Finding, DeadlineOf, fromLink, head-near, find-start, find-step, find-less, find-end, find-stop}
+use Rattle.timers.specs.Read.{read-next}
 use Rattle.state.specs.Places.{memIn}
 use lib.ListN.{length}
-use native.Mathlib.Nat.{le-of-lt}
 use borrow.Author.Needs.{needs}
 use Rattle.timers.proofs.find_before.Statement.{statement}
 use Rattle.timers.proofs.find_before.Tie as tie
 
 abbrev Inv-loop : tie.InvT-loop
-Inv-loop s z deadline prev₀ link₀ prev link = Finding z (memIn z s) deadline prev link
+Inv-loop s z deadline from prev₀ link₀ key₀ prev link key = Finding z (memIn z s) deadline prev link × DeadlineOf (memIn z s) link key
 
 abbrev μ-loop : tie.MeasureT-loop
-μ-loop s z deadline prev₀ link₀ prev link = length (fromLink z (memIn z s) link)
+μ-loop s z deadline from prev₀ link₀ key₀ prev link key = length (fromLink z (memIn z s) link)
+
+origin-requires : tie.Need-origin-requires Inv-loop μ-loop
+origin-requires c κs = search needs
 
 get16-requires : tie.Need-get16-requires Inv-loop μ-loop
 get16-requires c κs = search needs
 
+cast-link : tie.Need-cast-link Inv-loop μ-loop
+cast-link c = search needs
+
+deadline-at-requires : tie.Need-deadline-at-requires Inv-loop μ-loop
+deadline-at-requires c κs = search head-near
+
 loop-holds : tie.Need-loop-holds Inv-loop μ-loop
 loop-holds c = search find-start
 
-sub-get64 : tie.Need-sub-get64 Inv-loop μ-loop
-sub-get64 c = search needs
+next-at-requires : tie.Need-next-at-requires Inv-loop μ-loop
+next-at-requires c κs = search needs
 
-get64-requires : tie.Need-get64-requires Inv-loop μ-loop
-get64-requires c κs = search needs
-
-sub-get16 : tie.Need-sub-get16 Inv-loop μ-loop
-sub-get16 c = search needs
-
-get16-requires-2 : tie.Need-get16-requires-2 Inv-loop μ-loop
-get16-requires-2 c κs = search needs
+deadline-at-requires-2 : tie.Need-deadline-at-requires-2 Inv-loop μ-loop
+deadline-at-requires-2 c κs = read-next (search needs) (c .before .before .before .loop .inv .0) (c .before .before .if1 .left) (c .next-at .ensures)
 
 loop-less : tie.Need-loop-less Inv-loop μ-loop
 loop-less c = search find-less
 
 loop-again : tie.Need-loop-again Inv-loop μ-loop
-loop-again c = search (find-step, le-of-lt)
+loop-again c = search find-step
+
+cast-at : tie.Need-cast-at Inv-loop μ-loop
+cast-at c = search needs
+
+cast-at-2 : tie.Need-cast-at-2 Inv-loop μ-loop
+cast-at-2 c = search needs
 
 returns : tie.Need-returns Inv-loop μ-loop
 returns c = search find-end
@@ -50,12 +59,15 @@ find-before-spec =
     (tie.spec
     Inv-loop
     μ-loop
+    origin-requires
     get16-requires
+    cast-link
+    deadline-at-requires
     loop-holds
-    sub-get64
-    get64-requires
-    sub-get16
-    get16-requires-2
+    cast-at
+    cast-at-2
+    next-at-requires
+    deadline-at-requires-2
     loop-less
     loop-again
     returns

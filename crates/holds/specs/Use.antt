@@ -1,0 +1,131 @@
+-- What of a state's memory the machine uses, and stores that keep to it.
+use mathlib.Core.Path.{_≡_, refl, sym, ap, subst, _∙_}
+use mathlib.Core.Bool.{Bool, true, false, not, _&&_, _||_}
+use mathlib.Core.List.{List, [], _∷_, _++_}
+use Prim.Native.Nat.{ℕ, zero, suc, _+_, _-_, _*_, _/_, _%_, _<_, _≤_}
+use native.Mathlib.Omega.{arith}
+use borrow.Author.Tests.{eqb-true}
+use lib.Dec.{eqb, ltb}
+use Rattle.machine.specs.Basics.{if_then_else_}
+use Rattle.layout.specs.Memory.{Memory, upd}
+use Rattle.layout.specs.Writes.{Write, to, updates}
+use Rattle.state.specs.Fields as fields
+use Rattle.state.specs.Abs.{isSet}
+use Rattle.state.specs.declared.Sizes.{Sizes}
+
+-- The fields from one to another in the table.
+abbrev pub fromTo : ℕ → ℕ → ℕ → Bool
+fromTo first last f = not (ltb f first) && not (ltb last f)
+
+-- Whether the machine may use field f of number i: 0 where it does not. It does not use the fields and the name of a free record, what a
+-- free cell keeps, the bytes behind a message, the deadline and the link of a timer that is not queued, and a setting of a process's own
+-- timer. A record in use is used whole, though its `next` means nothing in no queue, its `parentAt` nothing without a living parent, and its
+-- `resumeObject` and `resumeCondition` nothing in a call that has none.
+unfoldable pub usedBy : (timers : ℕ) → (pids queued owners lengths : ℕ → ℕ) → ℕ → ℕ → ℕ
+usedBy timers pids queued owners lengths f i =
+    if fromTo fields.pid fields.resumeObject f
+    then pids i
+    else if eqb f fields.nameByte
+    then pids (i / 28)
+    else if eqb f fields.period || eqb f fields.timerRendez
+    then timers - i
+    else if fromTo fields.deadline fields.isQueued f
+    then queued i
+    else if fromTo fields.exitPid fields.messageLength f
+    then owners i
+    else if eqb f fields.messageByte then (if isSet (owners (i / 127)) then lengths (i / 127) - i % 127 else 0) else 1
+
+abbrev pub used : Sizes → Memory → ℕ → ℕ → ℕ
+used z m = usedBy (z .timers) (m fields.pid) (m fields.isQueued) (m fields.owner) (m fields.messageLength)
+
+-- The same is used in m′ as in m; no more than in m; and in m₁ no more than in m and m₂ together.
+pub record SameUse (z : Sizes) (m m′ : Memory) : Type 0 where
+  pub same : used z m′ ≡ used z m
+
+pub record Fewer (z : Sizes) (m m′ : Memory) : Type 0 where
+  pub fewer : (f i : ℕ) → used z m f i ≡ 0 → used z m′ f i ≡ 0
+
+pub record Between (z : Sizes) (m m₁ m₂ : Memory) : Type 0 where
+  pub between : (f i : ℕ) → used z m f i ≡ 0 → used z m₂ f i ≡ 0 → used z m₁ f i ≡ 0
+
+-- What is used goes by four fields.
+pub same-use
+    : {z : Sizes} {m m′ : Memory}
+    → m′ fields.pid ≡ m fields.pid
+    → m′ fields.isQueued ≡ m fields.isQueued
+    → m′ fields.owner ≡ m fields.owner
+    → m′ fields.messageLength ≡ m fields.messageLength
+    → SameUse z m m′
+same-use {z} a b c d = record { same = λ j. usedBy (z .timers) (a j) (b j) (c j) (d j) }
+
+pub same-join : {z : Sizes} {m m₁ m₂ : Memory} → SameUse z m m₁ → SameUse z m₁ m₂ → SameUse z m m₂
+same-join p q = record { same = q .same ∙ p .same }
+
+pub fewer-same : {z : Sizes} {m m′ : Memory} → SameUse z m m′ → Fewer z m m′
+fewer-same e = record { fewer = λ f i a. ap (λ (g : ℕ → ℕ → ℕ). g f i) (e .same) ∙ a }
+
+pub fewer-join : {z : Sizes} {m m₁ m₂ : Memory} → Fewer z m m₁ → Fewer z m₁ m₂ → Fewer z m m₂
+fewer-join p q = record { fewer = λ f i a. q .fewer f i (p .fewer f i a) }
+
+pub between-first : {z : Sizes} {m m₁ m₂ : Memory} → Fewer z m m₁ → Between z m m₁ m₂
+between-first p = record { between = λ f i a b. p .fewer f i a }
+
+pub between-last : {z : Sizes} {m m₁ m₂ : Memory} → SameUse z m₁ m₂ → Between z m m₁ m₂
+between-last e = record { between = λ f i a b. ap (λ (g : ℕ → ℕ → ℕ). g f i) (sym (e .same)) ∙ b }
+
+-- A store goes to what is used in memory m, or in memory m′.
+pub record InUse (z : Sizes) (m m′ : Memory) (w : Write) : Type 0 where
+  pub either : used z m (w .field) (w .index) ≡ 0 → used z m′ (w .field) (w .index) ≡ 0 → ⊥
+
+pub data EachInUse (z : Sizes) (m m′ : Memory) : List Write → Type 0 where
+  none : EachInUse z m m′ []
+  more : {w : Write} {ws : List Write} → InUse z m m′ w → EachInUse z m m′ ws → EachInUse z m m′ (w ∷ ws)
+
+-- In the one, and in the other.
+pub before : {z : Sizes} {m m′ : Memory} {w : Write} → 0 < used z m (w .field) (w .index) → InUse z m m′ w
+before h = record { either = λ a b. omega (arith, h, a) }
+
+pub after : {z : Sizes} {m m′ : Memory} {w : Write} → 0 < used z m′ (w .field) (w .index) → InUse z m m′ w
+after h = record { either = λ a b. omega (arith, h, b) }
+
+-- Stores after stores.
+wider : {z : Sizes} {m m₁ m₂ : Memory} {w : Write} → Between z m m₁ m₂ → InUse z m m₁ w → InUse z m m₂ w
+wider {w = w} t u = record { either = λ a b. u .either a (t .between (w .field) (w .index) a b) }
+
+narrower : {z : Sizes} {m m₁ m₂ : Memory} {w : Write} → Between z m m₁ m₂ → InUse z m₁ m₂ w → InUse z m m₂ w
+narrower {w = w} t u = record { either = λ a b. u .either (t .between (w .field) (w .index) a b) b }
+
+narrow-all : {z : Sizes} {m m₁ m₂ : Memory} {ws : List Write} → Between z m m₁ m₂ → EachInUse z m₁ m₂ ws → EachInUse z m m₂ ws
+narrow-all t none = none
+narrow-all t (more u us) = more (narrower t u) (narrow-all t us)
+
+pub in-use-join
+    : {z : Sizes} {m m₁ m₂ : Memory} {ws ws′ : List Write} → Between z m m₁ m₂ → EachInUse z m m₁ ws → EachInUse z m₁ m₂ ws′ → EachInUse z m m₂ (ws ++ ws′)
+in-use-join t none q = narrow-all t q
+in-use-join t (more u us) q = more (wider t u) (in-use-join t us q)
+
+-- Two runs of stores of one operation.
+pub in-use-runs : {z : Sizes} {m m′ : Memory} {ws ws′ : List Write} → EachInUse z m m′ ws → EachInUse z m m′ ws′ → EachInUse z m m′ (ws ++ ws′)
+in-use-runs none q = q
+in-use-runs (more u us) q = more u (in-use-runs us q)
+
+-- A store leaves every other number.
+upd-other : (m : Memory) (f i v g j : ℕ) → (f ≡ g → i ≡ j → ⊥) → upd m f i v g j ≡ m g j
+upd-other m f i v g j ne = go (eqb f g) refl
+  where
+    by-index : f ≡ g → (b : Bool) → eqb i j ≡ b → (if b then v else m f j) ≡ m g j
+    by-index e true q = absurd (ne e (eqb-true i j q))
+    by-index e false q = ap (λ (h : ℕ). m h j) e
+
+    go : (b : Bool) → eqb f g ≡ b → (if b then (λ k. if eqb i k then v else m f k) else m g) j ≡ m g j
+    go true e = by-index (eqb-true f g e) (eqb i j) refl
+    go false e = refl
+
+-- Stores to what is used leave every number that is used neither before nor after.
+pub updates-spare
+    : {z : Sizes} {m m′ : Memory} {ws : List Write} (k : Memory) → EachInUse z m m′ ws → (f i : ℕ) → used z m f i ≡ 0 → used z m′ f i ≡ 0 → updates k ws f i ≡ k f i
+updates-spare k none f i a b = refl
+updates-spare {z} {m} {m′} k (more {w = w} u us) f i a b =
+    updates-spare (upd k (w .field) (w .index) (w .value)) us f i a b
+    ∙ upd-other k (w .field) (w .index) (w .value) f i
+    (λ p q. u .either (ap (λ (g : ℕ). used z m g (w .index)) p ∙ ap (used z m f) q ∙ a) (ap (λ (g : ℕ). used z m′ g (w .index)) p ∙ ap (used z m′ f) q ∙ b))

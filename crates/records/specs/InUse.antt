@@ -1,0 +1,87 @@
+-- What the stores to records go to: the machine uses it.
+use mathlib.Core.Path.{_≡_, refl}
+use mathlib.Core.Bool.{Bool, true, false}
+use mathlib.Core.List.{List, [], _∷_}
+use Prim.Native.Nat.{ℕ, suc, _+_, _*_, _/_, _^_, _≤_, _<_}
+use native.Mathlib.Omega.{arith}
+use lib.Dec.{lit<}
+use lib.ListN.{length}
+use Rattle.layout.specs.Memory.{Memory}
+use Rattle.layout.specs.Writes.{to}
+use Rattle.chain.specs.Links.{alter-same}
+use Rattle.state.specs.Fields as fields
+use Rattle.state.specs.Places.{sizesIn}
+use Rattle.state.specs.WellFormed.{Used, Ages, isFull}
+use Rattle.state.specs.declared.Sizes.{Sizes}
+use Rattle.record.specs.declared.Proc.{Proc}
+use Rattle.record.specs.Stores.{idStores, tieStores, countStores, resumeStores, nameStores, recordStores}
+use Rattle.holds.specs.Use.{usedBy, EachInUse, none, more, before, after, in-use-runs, Fewer}
+use Rattle.holds.specs.Fewer.{zeros-alter, fewer-by}
+use Rattle.free.specs.Record.{wordOf, bitOf}
+use Rattle.free.specs.UseRecord.{recordWrites, useRecordWrites, dropRecordWrites}
+use Rattle.ages.specs.InUse.{in-in-use, out-in-use}
+use Rattle.records.specs.New.{newRecord}
+use Rattle.records.specs.Occupy.{takenMem, occupyStores, occupyMem}
+use Rattle.records.specs.Release.{releaseStores, releaseMem}
+
+-- The words of the records always.
+words-in-use : {z : Sizes} {m m′ : Memory} (w v : ℕ) (t : Bool) (u : ℕ) → EachInUse z m m′ (recordWrites w v t u)
+unfolding usedBy
+words-in-use w v true u = more (before (lit< tt)) (more (before (lit< tt)) none)
+words-in-use w v false u = more (before (lit< tt)) none
+
+mark-in-use : {z : Sizes} {m′ : Memory} (n : ℕ) (m : Memory) (i : ℕ) → EachInUse z m m′ (useRecordWrites n m i)
+mark-in-use n m i = words-in-use _ _ (isFull (m fields.usedRecords (wordOf n i) + 2 ^ bitOf n i)) _
+
+unmark-in-use : {z : Sizes} {m′ : Memory} (n : ℕ) (m : Memory) (i : ℕ) → EachInUse z m m′ (dropRecordWrites n m i)
+unmark-in-use n m i = words-in-use _ _ (isFull (m fields.usedRecords (wordOf n i))) _
+
+-- The bytes of a name from number j of it on, k being where that is, of i who lives after.
+pub name-in-use
+    : {z : Sizes} {m m′ : Memory} (i k j : ℕ) (bs : List ℕ) → 0 < m′ fields.pid i → k ≡ 28 * i + j → j + length bs ≤ 28 → EachInUse z m m′ (nameStores k bs)
+unfolding usedBy nameStores
+name-in-use i k j [] u e l = none
+name-in-use i k j (b ∷ bs) u e l =
+    let q : k / 28 ≡ i = omega arith in
+    more {w = to fields.nameByte k b} (after (rw q u)) (name-in-use i (suc k) (suc j) bs u (omega arith) (omega arith))
+
+-- A whole record, of i who lives after.
+module _ {z : Sizes} {m m′ : Memory} (i : ℕ) (p : Proc) (u : 0 < m′ fields.pid i) where
+  ids-in-use : EachInUse z m m′ (idStores i p)
+  unfolding usedBy
+  ids-in-use = more (after u) (more (after u) (more (after u) none))
+
+  ties-in-use : EachInUse z m m′ (tieStores i p)
+  unfolding usedBy
+  ties-in-use = more (after u) (more (after u) (more (after u) (more (after u) none)))
+
+  counts-in-use : EachInUse z m m′ (countStores i p)
+  unfolding usedBy
+  counts-in-use = more (after u) (more (after u) (more (after u) (more (after u) none)))
+
+  calls-in-use : EachInUse z m m′ (resumeStores i (p .resume))
+  unfolding usedBy
+  calls-in-use = more (after u) (more (after u) (more (after u) none))
+
+  record-in-use : length (p .text) ≡ 28 → EachInUse z m m′ (recordStores i p)
+  record-in-use w =
+      in-use-runs (in-use-runs (in-use-runs (in-use-runs ids-in-use ties-in-use) counts-in-use) calls-in-use)
+      (name-in-use i (28 * i) 0 (p .text) u (omega arith) (omega arith))
+
+-- A new process in record i, with a pid above 0.
+pub occupy-in-use
+    : {z : Sizes} {m : Memory} (n i : ℕ) (p : Proc) (v : ℕ) → Ages (sizesIn z) m → 0 < v → length (p .text) ≡ 28
+    → EachInUse z m (occupyMem n m i p v) (occupyStores n m i p v)
+occupy-in-use {m = m} n i p v a h w =
+    let u : 0 < occupyMem n m i p v fields.pid i = rw (alter-same (m fields.pid) i v) h in
+    in-use-runs (in-use-runs (mark-in-use n m i) (in-in-use i a u)) (record-in-use i (newRecord (takenMem n m i) i p v) u w)
+
+-- The record of i, who lived, is freed; nothing more is used then.
+pub release-in-use
+    : {z : Sizes} {m m′ : Memory} (n i : ℕ) → Ages (sizesIn z) m → Used m i → EachInUse z m m′ (releaseStores n m i)
+unfolding usedBy
+release-in-use {m = m} n i a u =
+    in-use-runs (in-use-runs (out-in-use i a u) (unmark-in-use n m i)) (more (before u) (more (before u) none))
+
+pub release-fewer : {z : Sizes} (n : ℕ) (m : Memory) (i : ℕ) → Fewer z m (releaseMem n m i)
+release-fewer n m i = fewer-by (zeros-alter (m fields.pid) i) (λ j e. e) (λ j e. e) (λ c. refl)
