@@ -9,8 +9,8 @@
 #      listings are what the Rust gives today, they hold every step with each number that it can meet, the definition and the
 #      Rust give the same on lists that are not kept, made here, `exit_message`, as C callers have it, and the Rust the same messages, and
 #      `step` and `run`, as C callers have them, and the Rust the same after every step of generated lists; damaged states are refused;
-#   7. where cargo is installed: `size`, `make` and `check`, as C callers have them, on many states against an independent reading, and
-#      the C and the Rust caller of docs/CALLERS.md;
+#   7. where cargo is installed: `size`, `make` and `check`, as C callers have them, on many states against an independent reading, and,
+#      where gcc is too, the C and the Rust caller of docs/CALLERS.md;
 #   8. every crate is proved from nothing, every must-fail edit is refused, and every program writes what it must (`rt ci`).
 set -euo pipefail
 cd "$(dirname "$0")"
@@ -46,6 +46,12 @@ definition/wrong.sh
 trials/run.sh
 lists/replay.sh
 
+# what C callers have, built once (`rt staticlib` proves and compiles a crate each time) and linked by all programs below
+has_cargo=$(command -v cargo 2>/dev/null || true)
+if [ -n "$has_cargo" ]; then
+  for crate in step run make verify; do library $crate; done
+fi
+
 if [ -d "$rust" ]; then
   (cd oracle && cargo build --quiet --release --offline) || fail "the oracle does not build"
   lists/compare.sh
@@ -54,7 +60,6 @@ if [ -d "$rust" ]; then
   library message
   (cd messages && cargo build --quiet --release --offline) || fail "the test of messages does not build"
   messages/target/release/messages
-  for crate in step run make verify; do library $crate; done
   (cd differential && cargo build --quiet --release --offline) || fail "the differential test does not build"
   differential/target/release/differential
 else
@@ -63,12 +68,15 @@ fi
 
 lists/pieces.sh
 
-# the functions for C callers, and the programs that try them
-if command -v cargo >/dev/null 2>&1; then
-  for crate in step run make verify; do library $crate; done
+# the programs that try the functions for C callers
+if [ -n "$has_cargo" ]; then
   (cd outside && cargo build --quiet --release --offline) || fail "the outside test does not build"
   outside/target/release/outside
-  callers/run.sh
+  if command -v gcc >/dev/null 2>&1; then
+    callers/run.sh
+  else
+    echo "test.sh: gcc is not installed: the callers are left out"
+  fi
 else
   echo "test.sh: cargo is not installed: the outside test of size, make and check and the callers are left out"
 fi

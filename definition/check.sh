@@ -83,6 +83,9 @@ if (cd "$work" && RT_CUT=0 rt check listings) >"$work/out" 2>&1; then
   echo "definition: $count lists, $steps steps: each listing is what the definition computes"
   exit 0
 fi
+if grep -q 'no verdict' "$work/out"; then
+  fail "the checker gave no verdict, as where one step fires too many timers: $(grep -m1 -e 'step limit' -e 'no verdict' "$work/out")"
+fi
 wrong=$(grep -o 'error: `list-[0-9]*`' "$work/out" | grep -o '[0-9]*' | sort -nu) || true
 [ -n "$wrong" ] || fail "the definition itself is not accepted (rt check machine says more): $(grep -m1 error "$work/out" || true)"
 for i in $wrong; do

@@ -1,12 +1,18 @@
 //! Names the eight unchanged files of r9's port/src as modules, by path.  The
 //! folder is R9_SRC, or where that is unset or empty the one in the `shared`
 //! folder beside the repository.
+//!
+//! The timer queue is private to timer.rs, and only a module inside can read
+//! it.  So of timer.rs a copy in the build's folder is compiled, with one line
+//! behind it that names src/timer_queue.rs as its module `queue`.
 
 use std::path::{Path, PathBuf};
 use std::{env, fs};
 
 const MODULES: [&str; 8] = ["chan", "clock", "dat", "error", "irq", "proc", "segment", "timer"];
 const DEFAULT: &str = "../../shared/docs/src/port/src";
+/// The module that is read from inside, and what reads it.
+const READ: (&str, &str) = ("timer", "src/timer_queue.rs");
 
 fn main() {
     println!("cargo::rerun-if-env-changed=R9_SRC");
@@ -18,12 +24,18 @@ fn main() {
 
 fn name_modules() -> Result<(), String> {
     let folder = folder()?;
+    let out = PathBuf::from(env::var_os("OUT_DIR").ok_or("OUT_DIR is not set")?);
     let mut text = String::new();
     for module in MODULES {
-        text += &declaration(&folder, module)?;
+        let file = file(&folder, module)?;
+        let compiled = if module == READ.0 { with_reader(&file, &out)? } else { file };
+        text += &declaration(&compiled, module);
     }
-    let out = env::var_os("OUT_DIR").ok_or("OUT_DIR is not set")?;
-    fs::write(Path::new(&out).join("port.rs"), text).map_err(|e| e.to_string())
+    write(&out.join("port.rs"), text.as_bytes())
+}
+
+fn write(file: &Path, bytes: &[u8]) -> Result<(), String> {
+    fs::write(file, bytes).map_err(|e| format!("{}: {e}", file.display()))
 }
 
 /// The folder of the eight files.  A relative one is relative to this package.
@@ -35,12 +47,27 @@ fn folder() -> Result<PathBuf, String> {
         .map_err(|e| format!("no folder {} with r9's port/src (set R9_SRC): {e}", named.display()))
 }
 
-fn declaration(folder: &Path, module: &str) -> Result<String, String> {
+fn file(folder: &Path, module: &str) -> Result<PathBuf, String> {
     let file = folder.join(module).with_extension("rs");
     if !file.is_file() {
         return Err(format!("no file {} (set R9_SRC)", file.display()));
     }
     println!("cargo::rerun-if-changed={}", file.display());
+    Ok(file)
+}
+
+/// A copy of the file with its reader named behind it.
+fn with_reader(file: &Path, out: &Path) -> Result<PathBuf, String> {
+    let package = env::var_os("CARGO_MANIFEST_DIR").ok_or("CARGO_MANIFEST_DIR is not set")?;
+    let mut text = fs::read(file).map_err(|e| format!("{}: {e}", file.display()))?;
+    let reader = Path::new(&package).join(READ.1);
+    text.extend(format!("#[path = {reader:?}] pub mod queue;\n").bytes());
+    let copy = out.join(READ.0).with_extension("rs");
+    write(&copy, &text)?;
+    Ok(copy)
+}
+
+fn declaration(file: &Path, module: &str) -> String {
     let lints = "dead_code, unused_imports, clippy::all";
-    Ok(format!("#[allow({lints})]\n#[path = {file:?}]\npub mod {module};\n"))
+    format!("#[allow({lints})]\n#[path = {file:?}]\npub mod {module};\n")
 }

@@ -123,10 +123,8 @@ pub fn measure(family: u64, size: u64) -> Result<Counts, String> {
     Driver::new(*sizes);
     straight::make_bare();
     let times = times(family, sizes, &mut lent);
-    let (rust, state) = (View::of_rust(), View::of_state(&lent.state, lent::layout_sizes(sizes)));
-    if rust != state {
-        return Err(format!("{}: the state holds {state:?},\nthe Rust {rust:?}\n", family.name));
-    }
+    let view = View { bytes: &lent.state, z: lent::layout_sizes(sizes) };
+    view.compare_queues().map_err(|why| format!("{}: {why}\n", family.name))?;
     let mut counts = Counts::default();
     counts.add(many::DONE, 1);
     for (name, seconds) in COLUMNS.iter().zip(times) {

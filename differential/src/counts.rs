@@ -6,6 +6,9 @@ use std::collections::BTreeMap;
 pub const LISTS: &str = "lists";
 pub const STEPS: &str = "steps";
 pub const STEP_CALLS: &str = "calls of step";
+pub const READ_ONLY_CALLS: &str = "refused on read-only memory";
+pub const LARGE_CALLS: &str = "calls of step on states over 300,000 bytes";
+pub const COMPARED: &str = "comparisons of everything";
 pub const RUN_CALLS: &str = "calls of run";
 pub const RUN_STEPS: &str = "steps taken by run";
 
@@ -47,10 +50,5 @@ impl Counts {
         let numbers = answers.into_iter().chain(expected::REFUSALS).map(expected::name);
         let shown = numbers.filter(|name| self.get(name) > 0);
         shown.map(|name| format!("{:>12} {name}\n", self.get(&name))).collect()
-    }
-
-    /// The answers and numbers among these that did not come.
-    pub fn missing(&self, numbers: impl Iterator<Item = u64>) -> Vec<String> {
-        numbers.map(expected::name).filter(|name| self.get(name) == 0).collect()
     }
 }

@@ -2,18 +2,17 @@
 //! and what a call must leave in them.
 
 use crate::expected::{Expected, NO_MEMORY};
-use crate::library;
+use crate::library::{self, Words};
+use crate::pages::Pages;
 use oracle::random::Random;
 use oracle::sizes;
 use outside::layout::{NEXT_PID, Sizes, locate, total};
+use std::ops::Range;
 
 /// A state that is lent with bytes behind it, at any address.
 pub struct Lent {
     pub z: Sizes,
-    memory: Vec<u8>,
-    /// The memory as it was after the last call, but where `run` came since.
-    twin: Vec<u8>,
-    is_twin: bool,
+    memory: Pages,
     from: usize,
     /// How many bytes are lent.
     length: usize,
@@ -33,13 +32,11 @@ impl Lent {
             return Err(format!("size says {size}, by docs/STATE.md it is {}", total(z)));
         }
         let (from, behind) = (random.below(9) as usize, random.pick(&[0, 1, 64, 200]));
-        let mut memory = vec![0xa5; from + total(z) + behind + 16];
-        for (byte, at) in memory.iter_mut().rev().zip(0..behind + 16) {
-            *byte = at as u8 ^ 0x5c;
-        }
-        let twin = memory.clone();
         let length = total(z) + behind;
-        let mut lent = Lent { z, memory, twin, is_twin: false, from, length };
+        let mut lent = Lent { z, memory: Pages::new(from + length + 16), from, length };
+        lent.memory[..from].fill(BEFORE_IT);
+        let behind_it = lent.behind();
+        lent.memory[behind_it].iter_mut().zip(pattern_behind()).for_each(|(at, byte)| *at = byte);
         match library::make(lent.bytes(), numbers, s.hz) {
             0 => lent.around().map(|()| lent),
             number => Err(format!("make says {number}")),
@@ -60,69 +57,92 @@ impl Lent {
     }
 
     /// Call `step`: it must answer what is expected, and write nothing else.
+    /// Where it must be refused the memory is read-only.
     pub fn step(
         &mut self,
         bytes: &[u8],
         message: &mut Message,
         expected: &Expected,
     ) -> Result<(), String> {
-        self.keep_twin();
+        if uses_up_a_pid(bytes, expected.words.number) {
+            return self.step_that_uses_up_a_pid(bytes, message, expected);
+        }
+        let lent = self.from..self.from + self.length;
+        let (words, written) = match is_read_only(bytes, expected) {
+            true => self
+                .memory
+                .read_only(|memory| library::step(&mut memory[lent], bytes, message.bytes())),
+            false => (library::step(&mut self.memory[lent], bytes, message.bytes()), None),
+        };
+        answers(words, message, expected)?;
+        match written {
+            Some(at) => Err(format!("refused, and writes {}", self.locate(at))),
+            None => self.around(),
+        }
+    }
+
+    /// The refusal that changes the next pid, and no other byte.
+    fn step_that_uses_up_a_pid(
+        &mut self,
+        bytes: &[u8],
+        message: &mut Message,
+        expected: &Expected,
+    ) -> Result<(), String> {
+        let mut twin = self.state().to_vec();
+        let next = NEXT_PID.get(&twin, self.z, 0) + 1;
+        NEXT_PID.set(&mut twin, self.z, 0, next);
         let words = library::step(self.bytes(), bytes, message.bytes());
-        if words != expected.words {
-            return Err(format!("step answers {words}\nmust be      {}", expected.words));
-        }
-        message.must_hold(&expected.message)?;
-        if expected.is_refusal() {
-            return self.refused(uses_up_a_pid(bytes, words.number));
-        }
-        self.is_twin = false;
+        answers(words, message, expected)?;
+        let differs = self.state().iter().zip(&twin).position(|(is, must)| is != must);
+        differs.map_or(Ok(()), |at| Err(format!("refused, and changes {}", locate(self.z, at))))?;
         self.around()
     }
 
     /// Call `run`: how many steps it says it took.
     pub fn run(&mut self, steps: &[u8], answers: &mut [u8]) -> Result<u64, String> {
-        self.is_twin = false;
         let taken = library::run(self.bytes(), steps, answers);
         self.around().map(|()| taken)
     }
 
-    fn keep_twin(&mut self) {
-        if !self.is_twin {
-            let state = self.from..self.from + total(self.z);
-            self.twin[state.clone()].copy_from_slice(&self.memory[state]);
-            self.is_twin = true;
+    /// What stands at a byte of the memory.
+    fn locate(&self, at: usize) -> String {
+        match at.checked_sub(self.from) {
+            None => "before the state".to_string(),
+            Some(at) => locate(self.z, at),
         }
     }
 
-    /// Every byte is as it was, but the next pid where one is used up.
-    fn refused(&mut self, is_used_up: bool) -> Result<(), String> {
-        if is_used_up {
-            let (state, z) = (&mut self.twin[self.from..], self.z);
-            let next = NEXT_PID.get(state, z, 0) + 1;
-            NEXT_PID.set(state, z, 0, next);
-        }
-        match self.memory == self.twin {
-            true => Ok(()),
-            false => Err(format!("refused, and changes {}", self.difference())),
-        }
-    }
-
-    fn difference(&self) -> String {
-        let differs = |at: &usize| self.memory[*at] != self.twin[*at];
-        match (0..self.memory.len()).find(differs) {
-            Some(at) if at < self.from => "bytes before the state".to_string(),
-            Some(at) => locate(self.z, at - self.from),
-            None => "nothing".to_string(),
-        }
+    fn behind(&self) -> Range<usize> {
+        self.from + total(self.z)..self.memory.len()
     }
 
     /// The bytes around the state are as they were.
     fn around(&self) -> Result<(), String> {
-        let behind = self.from + total(self.z);
-        let same = self.memory[..self.from] == self.twin[..self.from]
-            && self.memory[behind..] == self.twin[behind..];
+        let before = self.memory[..self.from].iter().all(|&byte| byte == BEFORE_IT);
+        let behind = self.memory[self.behind()].iter().copied();
+        let same = before && behind.zip(pattern_behind()).all(|(is, must)| is == must);
         same.then_some(()).ok_or("bytes before or behind the state are changed".to_string())
     }
+}
+
+/// What stands before a state, and behind it.
+const BEFORE_IT: u8 = 0xa5;
+
+fn pattern_behind() -> impl Iterator<Item = u8> {
+    (0..=u8::MAX).map(|at| at ^ 0x5c)
+}
+
+/// A call has answered what is expected.
+fn answers(words: Words, message: &Message, expected: &Expected) -> Result<(), String> {
+    if words != expected.words {
+        return Err(format!("step answers {words}\nmust be      {}", expected.words));
+    }
+    message.must_hold(&expected.message)
+}
+
+/// Whether a call must leave every byte of the state.
+pub fn is_read_only(bytes: &[u8], expected: &Expected) -> bool {
+    expected.is_refusal() && !uses_up_a_pid(bytes, expected.words.number)
 }
 
 /// An rfork whose page copy fails uses up a pid.

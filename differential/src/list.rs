@@ -1,12 +1,19 @@
 //! One list, on r9's own code and by `step` and `run`.
+//!
+//! What is compared when: after every step that `step` takes, everything
+//! (`view`), in a state of any size; after steps that `run` takes, their
+//! answers, and everything after the last.  In a state up to 300,000 bytes
+//! `step` takes every step.  In a larger one, which `step` checks whole at each
+//! call, it takes the last `SINGLY` steps of a list and some before, and `run`
+//! the others.
 
 use crate::bytes;
 use crate::counts::{self, Counts};
 use crate::expected::{self, Expected, NO_STEP};
-use crate::lent::{Lent, Message};
+use crate::lent::{self, Lent, Message};
 use crate::many;
 use crate::pieces;
-use crate::plan::Plan;
+use crate::plan::{self, Plan};
 use crate::steps;
 use crate::view::View;
 use oracle::generate::Generator;
@@ -14,6 +21,9 @@ use oracle::perform::Answer;
 use oracle::random::Random;
 use oracle::sizes::Sizes;
 use outside::layout::LAST_NOW;
+
+/// So many steps of a list in a large state, the last ones, are taken by `step`.
+const SINGLY: u64 = 200;
 
 /// A step that r9's code has taken, and what it answered.
 pub struct Taken {
@@ -38,32 +48,39 @@ type Difference = (usize, String);
 
 /// Run list number `index`: the counts, or the list and how it differs.
 pub fn run(index: u64, seed: u64) -> Result<Counts, Vec<u8>> {
-    let Plan { sizes, opening, count, is_by_step } = Plan::of(index, seed);
+    let Plan { sizes, opening, count, is_large } = Plan::of(index, seed);
     let mut random = Random::new(seed ^ 0x5eed);
     let mut generator = Generator::new(sizes, seed, count, 40_000 + 2 * count);
     generator.plan(opening);
     let lent = Lent::fresh(&sizes, &mut random)?;
     let (taken, counts) = (Vec::new(), Counts::default());
     let mut list = List { random, sizes, generator, lent, taken, exit_in: 0, counts };
-    match list.all(is_by_step) {
+    match list.all(is_large) {
         Ok(()) => Ok(list.counts),
         Err((at, why)) => Err(list.report(at, &why)),
     }
 }
 
 impl List {
-    fn all(&mut self, is_by_step: bool) -> Result<(), Difference> {
+    fn all(&mut self, is_large: bool) -> Result<(), Difference> {
         while self.generator.left() > 0 {
-            if is_by_step { self.by_step()? } else { self.by_run()? }
+            if is_large { self.in_large_state()? } else { self.by_step()? }
+        }
+        if is_large {
+            let calls = self.counts.get(counts::STEP_CALLS);
+            self.counts.add(counts::LARGE_CALLS, calls);
         }
         self.again()?;
         self.counts.add(many::DONE, 1);
         self.counts.add(counts::LISTS, 1);
-        self.counts.add(counts::STEPS, self.taken.len() as u64);
+        let steps = self.taken.len() as u64;
+        self.counts.add(counts::STEPS, steps);
+        plan::names(&self.sizes).iter().for_each(|name| self.counts.add(name, steps));
         Ok(())
     }
 
-    /// One step of the generator, and what is put in beside it, by `step`.
+    /// One step of the generator, and what is put in beside it, by `step`: steps
+    /// that are refused, which leave what was there to be compared.
     fn by_step(&mut self) -> Result<(), Difference> {
         let from = self.taken.len();
         self.take()?;
@@ -73,26 +90,28 @@ impl List {
             }
             self.call(at)?;
         }
-        self.compare_views()
+        self.compare()
     }
 
-    /// Some steps by `run`, or one by `step`.
-    fn by_run(&mut self) -> Result<(), Difference> {
+    /// Some steps by `run`, or a few by `step`.
+    fn in_large_state(&mut self) -> Result<(), Difference> {
+        let before_the_last = self.generator.left().saturating_sub(SINGLY);
+        let count = self.random.pick(&[1, 3, 20, 100, 300, 3_000]).min(before_the_last);
+        match count {
+            ..=20 => (0..count.max(1)).try_for_each(|_| self.by_step()),
+            _ => self.by_run(count),
+        }
+    }
+
+    fn by_run(&mut self, count: u64) -> Result<(), Difference> {
         let from = self.taken.len();
-        let count = self.random.pick(&[1, 3, 20, 100, 300, 3_000]);
-        for _ in 0..count.min(self.generator.left()) {
+        for _ in 0..count {
             self.take()?;
         }
-        if count == 1 {
-            for at in from..self.taken.len() {
-                self.call(at)?;
-            }
-        } else {
-            let calls = pieces::take(&mut self.lent, &self.taken[from..], &mut self.random);
-            let calls = calls.map_err(|(at, why)| (from + at, why))?;
-            self.count_run(calls, self.taken.len() - from);
-        }
-        self.compare_views()
+        let calls = pieces::take(&mut self.lent, &self.taken[from..], &mut self.random);
+        let calls = calls.map_err(|(at, why)| (from + at, why))?;
+        self.count_run(calls, self.taken.len() - from);
+        self.compare()
     }
 
     /// The same steps by `run` on a fresh state: the same answers and bytes.
@@ -184,6 +203,7 @@ impl List {
         let Taken { bytes, expected, .. } = &self.taken[at];
         let mut message = Message::any(&mut self.random);
         self.counts.add(counts::STEP_CALLS, 1);
+        self.counts.add(counts::READ_ONLY_CALLS, u64::from(lent::is_read_only(bytes, expected)));
         self.lent.step(bytes, &mut message, expected).map_err(|why| (at, why))
     }
 
@@ -192,19 +212,15 @@ impl List {
         let mut message = Message::short(&mut self.random);
         let expected = Expected::refused(NO_STEP);
         self.counts.add(counts::STEP_CALLS, 1);
+        self.counts.add(counts::READ_ONLY_CALLS, 1);
         let outcome = self.lent.step(&self.taken[at].bytes, &mut message, &expected);
         outcome.map_err(|why| (at, format!("with a short message buffer: {why}")))
     }
 
-    fn compare_views(&self) -> Result<(), Difference> {
-        let (rust, state) = (View::of_rust(), View::of_state(self.lent.state(), self.lent.z));
-        match rust == state {
-            true => Ok(()),
-            false => Err((
-                self.taken.len() - 1,
-                format!("after it the state holds {state:?},\nthe Rust {rust:?}"),
-            )),
-        }
+    fn compare(&mut self) -> Result<(), Difference> {
+        self.counts.add(counts::COMPARED, 1);
+        let view = View { bytes: self.lent.state(), z: self.lent.z };
+        view.compare().map_err(|why| (self.taken.len() - 1, format!("after it: {why}")))
     }
 
     /// The list as lines up to the difference, and the difference.

@@ -12,8 +12,10 @@ mod library;
 mod list;
 mod many;
 mod opening;
+mod pages;
 mod pieces;
 mod plan;
+mod self_test;
 mod steps;
 mod subject;
 mod view;
@@ -24,8 +26,7 @@ use std::io::{self, Write};
 use std::process::exit;
 use std::time::Instant;
 
-const USAGE: &str =
-    "usage: differential [lists | damaged] [--steps N] [--seed S], or differential bench";
+const USAGE: &str = "usage: differential [lists | damaged] [--steps N] [--seed S], or differential bench | self-test";
 const STEPS: u64 = 2_500_000;
 const CALLS: u64 = 2_000_000;
 const SEED: u64 = 1;
@@ -41,7 +42,9 @@ fn main() {
         ["damage", count, seed] => part(damaged::run(number(count), number(seed))),
         ["measure", family, size] => part(bench::measure(number(family), number(size))),
         ["bench"] => bench::run().unwrap_or_else(|why| fail(1, &why)),
+        ["self-test"] => self_test(),
         [] => {
+            self_test();
             lists(STEPS, SEED);
             damages(CALLS, SEED);
         }
@@ -91,22 +94,38 @@ fn part(outcome: Result<Counts, impl AsRef<[u8]>>) {
     exit(status)
 }
 
+fn self_test() {
+    match self_test::run() {
+        Ok(said) => println!("self-test: {said}"),
+        Err(why) => fail(1, &format!("self-test: {why}")),
+    }
+}
+
 fn lists(steps: u64, seed: u64) {
     let start = Instant::now();
     let counts = many::run(many::lists(steps, seed)).unwrap_or_else(|why| fail(1, &why));
     print!("{}", counts.answers());
+    for names in plan::all_names() {
+        let steps: Vec<_> =
+            names.iter().map(|name| format!("{name}: {}", counts.get(name))).collect();
+        println!("steps at {}", steps.join(", "));
+    }
     let of = |what: &str| format!("{} {what}", counts.get(what));
     println!(
-        "lists: {}, {}, {}, {}, {}; seed {seed}, {:.1} s: no difference",
+        "lists: {}, {}, {} ({}, {}), {}, {}, {}; seed {seed}, {:.1} s: no difference",
         of(counts::LISTS),
         of(counts::STEPS),
         of(counts::STEP_CALLS),
+        of(counts::READ_ONLY_CALLS),
+        of(counts::LARGE_CALLS),
         of(counts::RUN_CALLS),
         of(counts::RUN_STEPS),
+        of(counts::COMPARED),
         start.elapsed().as_secs_f64()
     );
     if steps >= MANY {
-        all_came(&counts, expected::REFUSALS.filter(|number| !NEVER.contains(number)));
+        let numbers = expected::REFUSALS.filter(|number| !NEVER.contains(number));
+        all_came(&counts, numbers, plan::all_names().concat());
     }
 }
 
@@ -123,7 +142,7 @@ fn damages(calls: u64, seed: u64) {
         start.elapsed().as_secs_f64()
     );
     if calls >= MANY {
-        all_came(&counts, expected::REFUSALS.filter(|&number| number != HELD));
+        all_came(&counts, expected::REFUSALS.filter(|&number| number != HELD), Vec::new());
     }
 }
 
@@ -133,10 +152,11 @@ const HELD: u64 = 14;
 /// The numbers that no list from a fresh state meets.
 const NEVER: [u64; 3] = [1, 14, 16];
 
-/// Every answer and these numbers must have come.
-fn all_came(counts: &Counts, numbers: impl Iterator<Item = u64>) {
+/// Every answer, these numbers and these sizes must have come.
+fn all_came(counts: &Counts, numbers: impl Iterator<Item = u64>, sizes: Vec<String>) {
     let answers = expected::ANSWERS.iter().map(|answer| answer.0);
-    let missing = counts.missing(answers.chain(numbers));
+    let names = answers.chain(numbers).map(expected::name).chain(sizes);
+    let missing: Vec<_> = names.filter(|name| counts.get(name) == 0).collect();
     if !missing.is_empty() {
         fail(1, &format!("these did not come: {}", missing.join(", ")));
     }

@@ -12,13 +12,31 @@ pub struct Plan {
     pub opening: Vec<String>,
     /// How many steps, with the opening.
     pub count: u64,
-    /// Whether each step is taken by `step`, or most by `run` alone.
-    pub is_by_step: bool,
+    /// Whether the state is large.
+    pub is_large: bool,
+}
+
+/// The sizes and frequencies that lists have.
+const PROCESSES: [u64; 5] = [1, 2, 16, 300, 4_096];
+const CELLS: [u64; 4] = [1, 2, 256, 65_000];
+const FREQUENCIES: [u64; 5] = [1, 3, 1_000, 1_000_000, 4_294_967_295];
+
+/// What steps in states of these sizes are counted as.
+pub fn names(sizes: &Sizes) -> [String; 3] {
+    let Sizes { processes: p, cells: c, hz, .. } = sizes;
+    [format!("P = {p}"), format!("C = {c}"), format!("hz = {hz}")]
+}
+
+/// The names of all sizes and frequencies.
+pub fn all_names() -> [Vec<String>; 3] {
+    let all =
+        |what: &str, numbers: &[u64]| numbers.iter().map(|n| format!("{what} = {n}")).collect();
+    [all("P", &PROCESSES), all("C", &CELLS), all("hz", &FREQUENCIES)]
 }
 
 /// Of so many lists one is large.
 const LARGE_EVERY: u64 = 40;
-/// From so many bytes on a state is large, and checked as seldom as can be.
+/// From so many bytes on a state is large.
 const LARGE: usize = 300_000;
 /// From so many on its lists are shorter.
 const WIDE: usize = 60_000;
@@ -37,7 +55,7 @@ impl Plan {
             _ => 1_500,
         };
         let count = opening.len() as u64 + more;
-        Plan { sizes, opening, count, is_by_step: bytes < LARGE }
+        Plan { sizes, opening, count, is_large: bytes >= LARGE }
     }
 }
 

@@ -1,44 +1,140 @@
-//! What a listing's line tells of the state beside the answer.
+//! What a state's bytes hold, read by docs/STATE.md, against what r9's own
+//! structures hold: who runs, the order of every queue, who sleeps where, the
+//! exits in every wait queue.
 
 use oracle::driver;
-use outside::layout::{ASLEEP_COUNT, NEXT, PID, RUN_HEAD, Sizes, TICKS, UP};
+use oracle::places::{self, Living, Timer};
+use outside::layout::*;
+use std::fmt::Debug;
+use std::iter::successors;
 
-#[derive(PartialEq, Eq, Debug)]
-pub struct View {
-    /// The running process's pid, or 0.
-    up: u64,
-    /// The pids in the run queue, from its head.
-    queue: Vec<u64>,
-    asleep: u64,
-    ticks: u64,
+/// What is compared: its name, and a number where there are several.
+type Part = (&'static str, usize);
+
+/// Of `stateOf` and `resumeKind`: who has both sleeps on its own waitr.
+const ASLEEP: u64 = 3;
+const WAIT: u64 = 4;
+const MESSAGE_MAX: usize = 127;
+
+/// The bytes of a state.  Where a queue's links run in circles r9's ends first,
+/// and they differ.
+#[derive(Clone, Copy)]
+pub struct View<'a> {
+    pub bytes: &'a [u8],
+    pub z: Sizes,
 }
 
-impl View {
-    /// Of r9's structures.
-    pub fn of_rust() -> View {
-        View {
-            up: driver::up(),
-            queue: driver::queued_pids(),
-            asleep: driver::asleep() as u64,
-            ticks: driver::ticks(),
-        }
+impl<'a> View<'a> {
+    /// The first difference, if there is one.
+    pub fn compare(self) -> Result<(), String> {
+        self.compare_queues()?;
+        self.compare_living()
     }
 
-    /// Of a state's bytes.
-    pub fn of_state(bytes: &[u8], z: Sizes) -> View {
-        let pid = |link: u64| if link == 0 { 0 } else { PID.get(bytes, z, link as usize - 1) };
-        let mut queue = Vec::new();
-        let mut link = RUN_HEAD.get(bytes, z, 0);
-        // A queue that runs in circles ends here, and differs.
-        while link != 0 && queue.len() <= z.p {
-            queue.push(pid(link));
-            link = NEXT.get(bytes, z, link as usize - 1);
+    /// The same of all but the living and their wait queues, of which bare r9
+    /// keeps no list.
+    pub fn compare_queues(self) -> Result<(), String> {
+        same(("who runs", 0), self.pid(self.get(UP, 0)), driver::up())?;
+        same(("asleep", 0), self.get(ASLEEP_COUNT, 0), driver::asleep() as u64)?;
+        same(("ticks", 0), self.get(TICKS, 0), driver::ticks())?;
+        let queued = driver::queued_pids();
+        same_list(("the run queue", 0), self.processes(self.get(RUN_HEAD, 0)), queued.into_iter())?;
+        for r in 0..self.z.r {
+            same(("Rendez", r), self.pid(self.get(SLEEPER_OF, r)), places::sleeper(r))?;
         }
-        View {
-            up: pid(UP.get(bytes, z, 0)),
-            queue,
-            asleep: ASLEEP_COUNT.get(bytes, z, 0),
-            ticks: TICKS.get(bytes, z, 0),
+        for q in 0..self.z.q {
+            same(("held, lock", q), self.get(HELD, q), u64::from(places::is_held(q)))?;
+            same_list(("lock", q), self.processes(self.get(LOCK_HEAD, q)), places::waiters(q))?;
+        }
+        same_list(("the timer queue", 0), self.timers(), places::timers())
+    }
+
+    /// The living by age, and of each whether it sleeps on its waitr, its
+    /// nchild, and its exits from the newest on.
+    fn compare_living(self) -> Result<(), String> {
+        let mut records = self.chain(self.get(OLDEST, 0), YOUNGER);
+        for process in places::living() {
+            let record = records.next();
+            same(("the living", 0), record.map(|i| self.get(PID, i)), Some(process.pid()))?;
+            record.map_or(Ok(()), |i| self.compare_wait(i, &process))?;
+        }
+        same(("the living", 0), records.next().map(|i| self.get(PID, i)), None)
+    }
+
+    fn compare_wait(self, i: usize, process: &Living) -> Result<(), String> {
+        let pid = process.pid() as usize;
+        let is_waiting = self.get(STATE_OF, i) == ASLEEP && self.get(RESUME_KIND, i) == WAIT;
+        same(("on its waitr, process", pid), is_waiting, process.is_waiting())?;
+        same(("nchild, process", pid), self.get(NCHILD, i), process.nchild() as u64)?;
+        process.exits(|exits| {
+            same(("exits, process", pid), self.get(NEXITS, i), exits.len() as u64)?;
+            let cells = self.chain(self.get(EXITS, i), CELL_NEXT).map(|c| self.exit(c));
+            let exits = exits.iter().map(|exit| (exit.pid, &exit.msg[..]));
+            same_list(("wait queue, process", pid), cells, exits)
+        })
+    }
+
+    #[inline(always)]
+    fn get(self, field: Field, i: usize) -> u64 {
+        field.get(self.bytes, self.z, i)
+    }
+
+    /// The pid of a linked record, 0 of none.
+    fn pid(self, link: u64) -> u64 {
+        if link == 0 { 0 } else { self.get(PID, link as usize - 1) }
+    }
+
+    /// The numbers that a link and those behind it lead to.
+    pub fn chain(self, link: u64, next: Field) -> impl Iterator<Item = usize> + use<'a> {
+        let number = |link: u64| link.checked_sub(1).map(|n| n as usize);
+        successors(number(link), move |&n| number(self.get(next, n)))
+    }
+
+    /// The pids from a link on.
+    fn processes(self, link: u64) -> impl Iterator<Item = u64> + use<'a> {
+        self.chain(link, NEXT).map(move |record| self.get(PID, record))
+    }
+
+    fn timers(self) -> impl Iterator<Item = (Timer, u64)> + use<'a> {
+        self.chain(self.get(TIMER_HEAD, 0), TIMER_NEXT).map(move |t| {
+            let timer = match t.checked_sub(self.z.k) {
+                None => Timer::Kernel(t),
+                Some(record) => Timer::Process(self.get(PID, record)),
+            };
+            (timer, self.get(DEADLINE, t))
+        })
+    }
+
+    fn exit(self, cell: usize) -> (u64, &'a [u8]) {
+        let message = &self.bytes[MESSAGE_BYTE.at(self.z, MESSAGE_MAX * cell)..];
+        (self.get(EXIT_PID, cell), &message[..self.get(MESSAGE_LENGTH, cell) as usize])
+    }
+}
+
+fn same<T: PartialEq + Debug>(part: Part, state: T, rust: T) -> Result<(), String> {
+    match state == rust {
+        true => Ok(()),
+        false => Err(differs(part, 0, state, rust)),
+    }
+}
+
+/// The same, place by place.
+fn same_list<T: PartialEq + Debug>(
+    part: Part,
+    mut state: impl Iterator<Item = T>,
+    mut rust: impl Iterator<Item = T>,
+) -> Result<(), String> {
+    for place in 1.. {
+        match (state.next(), rust.next()) {
+            (None, None) => break,
+            (state, rust) if state == rust => {}
+            (state, rust) => return Err(differs(part, place, state, rust)),
         }
     }
+    Ok(())
+}
+
+fn differs<T: Debug>((name, number): Part, place: usize, state: T, rust: T) -> String {
+    let place = if place == 0 { String::new() } else { format!(", place {place}") };
+    format!("{name} {number}{place}: the state has {state:?}, the Rust {rust:?}")
 }

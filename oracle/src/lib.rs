@@ -28,6 +28,7 @@ mod mem;
 mod pagealloc;
 pub mod parse;
 pub mod perform;
+pub mod places;
 pub mod random;
 pub mod sizes;
 pub mod straight;

@@ -75,6 +75,11 @@ impl KernelTimer {
             rendez: Cell::new(0),
         }
     }
+
+    /// Whether this is its Timer.
+    pub fn is(&self, timer: *const Timer) -> bool {
+        std::ptr::eq(self.timer.get(), timer)
+    }
 }
 
 /// A Timer for kernel timer `number`.  It lives as long as the program, as

@@ -52,6 +52,7 @@ impl Region {
         }
     }
 
+    #[inline(always)]
     pub fn bytes_each(self) -> usize {
         match self {
             Header => 80,
@@ -65,6 +66,7 @@ impl Region {
         }
     }
 
+    #[inline(always)]
     pub fn begins(self, z: Sizes) -> usize {
         let Sizes { p, r, q, k, c } = z;
         match self {
@@ -132,10 +134,12 @@ pub struct Field {
 
 impl Field {
     /// Where the field of record `i` of its region begins.
+    #[inline(always)]
     pub fn at(&self, z: Sizes, i: usize) -> usize {
         self.region.begins(z) + i * self.region.bytes_each() + self.offset
     }
 
+    #[inline(always)]
     pub fn get(&self, bytes: &[u8], z: Sizes, i: usize) -> u64 {
         number(bytes, self.at(z, i), self.width)
     }
@@ -167,6 +171,7 @@ impl Field {
 }
 
 /// The number in `width` bytes from `at`, little end first.
+#[inline(always)]
 pub fn number(bytes: &[u8], at: usize, width: usize) -> u64 {
     let mut whole = [0; 8];
     whole[..width].copy_from_slice(&bytes[at..at + width]);

@@ -1,0 +1,89 @@
+//! Where r9's own structures hold processes, timers and exits: read, nothing
+//! is changed.  Processes are named by their pids; 0 is none.
+
+use crate::dat::{Proc, Waitmsg};
+use crate::host::Host;
+use crate::mcslock::LockNode;
+use crate::perform::parts;
+use crate::timer::queue::{self, Queued};
+use std::collections::VecDeque;
+use std::iter::successors;
+
+fn pid(p: *const ()) -> u64 {
+    // SAFETY: it is null, or a living process in one of r9's structures.
+    unsafe { p.cast::<Proc<Host>>().as_ref() }.map_or(0, |p| p.pid)
+}
+
+/// Who sleeps on a Rendez.
+pub fn sleeper(r: usize) -> u64 {
+    pid(*parts().rendez[r].sleeper.ilock(&LockNode::new()))
+}
+
+pub fn is_held(q: usize) -> bool {
+    parts().locks[q].state.ilock(&LockNode::new()).locked
+}
+
+/// The waiters for a lock, from the first.
+pub fn waiters(q: usize) -> impl Iterator<Item = u64> {
+    let head = parts().locks[q].state.ilock(&LockNode::new()).head.cast::<Proc<Host>>();
+    // SAFETY: the waiters are alive.
+    let of = |p: *mut Proc<Host>| unsafe { p.as_ref() };
+    successors(of(head), move |p| of(p.qnext)).map(|p| p.pid)
+}
+
+/// A timer: a kernel timer by its number, or the one of a process.
+#[derive(Clone, Copy, PartialEq, Debug)]
+pub enum Timer {
+    Kernel(usize),
+    Process(u64),
+}
+
+/// The timer queue from its head: each timer, and its deadline.
+pub fn timers() -> impl Iterator<Item = (Timer, u64)> {
+    queue::queued().map(|queued| (which(&queued), queued.when))
+}
+
+/// A kernel timer's callback is passed its number, a process's its process.
+fn which(&Queued { timer, arg, .. }: &Queued) -> Timer {
+    let kernel = &parts().timers;
+    match arg as usize {
+        _ if queue::is_clock(timer) => Timer::Kernel(0),
+        number if number < kernel.len() => {
+            assert!(kernel[number].is(timer), "an old timer of number {number} is queued");
+            Timer::Kernel(number)
+        }
+        _ => Timer::Process(pid(arg)),
+    }
+}
+
+/// A living process.
+pub struct Living(&'static Proc<Host>);
+
+/// The living, oldest first.
+pub fn living() -> impl Iterator<Item = Living> {
+    // SAFETY: they are alive until the next step.
+    let of = |&p: &*mut Proc<Host>| Living(unsafe { &*p });
+    parts().living.borrow().iter().map(of).collect::<Vec<_>>().into_iter()
+}
+
+impl Living {
+    pub fn pid(&self) -> u64 {
+        self.0.pid
+    }
+
+    /// Whether it sleeps on its own waitr.
+    pub fn is_waiting(&self) -> bool {
+        let sleeper = pid(*self.0.waitq.waitr.sleeper.ilock(&LockNode::new()));
+        assert!(sleeper == 0 || sleeper == self.0.pid, "another sleeps on a waitr");
+        sleeper != 0
+    }
+
+    pub fn nchild(&self) -> usize {
+        self.0.waitq.state.ilock(&LockNode::new()).nchild
+    }
+
+    /// Look at its wait queue, newest first.
+    pub fn exits<T>(&self, look: impl FnOnce(&VecDeque<Waitmsg>) -> T) -> T {
+        look(&self.0.waitq.state.ilock(&LockNode::new()).exits)
+    }
+}
