@@ -4,8 +4,8 @@
 //! (`view`), in a state of any size; after steps that `run` takes, their
 //! answers, and everything after the last.  In a state up to 300,000 bytes
 //! `step` takes every step.  In a larger one, which `step` checks whole at each
-//! call, it takes the last `SINGLY` steps of a list and some before, and `run`
-//! the others.
+//! call, it takes every step if asked to, else the last `SINGLY` steps of a list
+//! and some before, and `run` the others.
 
 use crate::bytes;
 use crate::counts::{self, Counts};
@@ -46,8 +46,9 @@ struct List {
 /// At which step of the list they differ, and how.
 type Difference = (usize, String);
 
-/// Run list number `index`: the counts, or the list and how it differs.
-pub fn run(index: u64, seed: u64) -> Result<Counts, Vec<u8>> {
+/// Run list number `index`, in a large state too by `step` where `is_single`:
+/// the counts, or the list and how it differs.
+pub fn run(index: u64, seed: u64, is_single: bool) -> Result<Counts, Vec<u8>> {
     let Plan { sizes, opening, count, is_large } = Plan::of(index, seed);
     let mut random = Random::new(seed ^ 0x5eed);
     let mut generator = Generator::new(sizes, seed, count, 40_000 + 2 * count);
@@ -55,16 +56,16 @@ pub fn run(index: u64, seed: u64) -> Result<Counts, Vec<u8>> {
     let lent = Lent::fresh(&sizes, &mut random)?;
     let (taken, counts) = (Vec::new(), Counts::default());
     let mut list = List { random, sizes, generator, lent, taken, exit_in: 0, counts };
-    match list.all(is_large) {
+    match list.all(is_large, is_large && !is_single) {
         Ok(()) => Ok(list.counts),
         Err((at, why)) => Err(list.report(at, &why)),
     }
 }
 
 impl List {
-    fn all(&mut self, is_large: bool) -> Result<(), Difference> {
+    fn all(&mut self, is_large: bool, has_runs: bool) -> Result<(), Difference> {
         while self.generator.left() > 0 {
-            if is_large { self.in_large_state()? } else { self.by_step()? }
+            if has_runs { self.in_large_state()? } else { self.by_step()? }
         }
         if is_large {
             let calls = self.counts.get(counts::STEP_CALLS);

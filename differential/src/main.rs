@@ -26,7 +26,7 @@ use std::io::{self, Write};
 use std::process::exit;
 use std::time::Instant;
 
-const USAGE: &str = "usage: differential [lists | damaged] [--steps N] [--seed S], or differential bench | self-test";
+const USAGE: &str = "usage: differential [lists | singly | damaged] [--steps N] [--seed S], or differential bench | self-test";
 const STEPS: u64 = 2_500_000;
 const CALLS: u64 = 2_000_000;
 const SEED: u64 = 1;
@@ -38,23 +38,28 @@ fn main() {
     let args: Vec<String> = std::env::args().skip(1).collect();
     let args: Vec<&str> = args.iter().map(String::as_str).collect();
     match args.as_slice() {
-        ["list", index, seed] => part(list::run(number(index), number(seed))),
+        ["list", index, seed] => part(list::run(number(index), number(seed), false)),
+        ["single", index, seed] => part(list::run(number(index), number(seed), true)),
         ["damage", count, seed] => part(damaged::run(number(count), number(seed))),
         ["measure", family, size] => part(bench::measure(number(family), number(size))),
         ["bench"] => bench::run().unwrap_or_else(|why| fail(1, &why)),
         ["self-test"] => self_test(),
         [] => {
             self_test();
-            lists(STEPS, SEED);
+            lists("list", STEPS, SEED);
             damages(CALLS, SEED);
         }
         ["damaged", options @ ..] => {
             let (steps, seed) = amounts(options, CALLS);
             damages(steps, seed);
         }
+        ["singly", options @ ..] => {
+            let (steps, seed) = amounts(options, STEPS);
+            lists("single", steps, seed);
+        }
         ["lists", options @ ..] | options => {
             let (steps, seed) = amounts(options, STEPS);
-            lists(steps, seed);
+            lists("list", steps, seed);
         }
     }
 }
@@ -101,9 +106,9 @@ fn self_test() {
     }
 }
 
-fn lists(steps: u64, seed: u64) {
+fn lists(what: &'static str, steps: u64, seed: u64) {
     let start = Instant::now();
-    let counts = many::run(many::lists(steps, seed)).unwrap_or_else(|why| fail(1, &why));
+    let counts = many::run(many::lists(what, steps, seed)).unwrap_or_else(|why| fail(1, &why));
     print!("{}", counts.answers());
     for names in plan::all_names() {
         let steps: Vec<_> =

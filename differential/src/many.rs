@@ -39,13 +39,13 @@ pub fn run(mut left: Vec<Part>) -> Result<Counts, String> {
     wrong.map_or(Ok(counts), Err)
 }
 
-/// Lists of so many steps in all.
-pub fn lists(steps: u64, seed: u64) -> Vec<Part> {
+/// Lists of so many steps in all, as `what` runs one.
+pub fn lists(what: &'static str, steps: u64, seed: u64) -> Vec<Part> {
     let (mut random, mut parts, mut planned) = (Random::new(seed), Vec::new(), 0);
     while planned < steps {
         let (index, seed) = (parts.len() as u64, random.bits());
         planned += Plan::of(index, seed).count;
-        parts.push(("list", index, seed));
+        parts.push((what, index, seed));
     }
     parts
 }
