@@ -18,7 +18,7 @@ use Rattle.state.specs.WellFormed.{Used, ageList, Rising, Ages}
 use Rattle.exact.specs.Resumes.{set-test, unset-test}
 use Rattle.ages.specs.Lists.{Stands, stands, without, without-split, rising-out, rising-same}
 use Rattle.ages.specs.Both.{Both, both-out}
-use Rattle.ages.specs.Kept.{AgesAre, ages-are, ages-both, used-listed, LivingOnce, ParentsAt, Later, later-both, named, later-named}
+use Rattle.ages.specs.Kept.{AgesAre, ages-are, ages-both, used-listed, LivingOnce, ParentsAt, Orphans, Later, later-both, named, later-named}
 use Rattle.ages.specs.Out.{ageOutMem}
 
 module _ {z : machine.Sizes} {m m″ : Memory} {i : ℕ} (a : Ages z m) (used : Used m i) (l : Later m (ageOutMem m i) m″ i) (gone : m″ fields.pid i ≡ 0) (us vs : List ℕ) (split : ageList z m ≡ us ++ i ∷ vs) where
@@ -67,6 +67,11 @@ module _ {z : machine.Sizes} {m m″ : Memory} {i : ℕ} (a : Ages z m) (used : 
       l .parentAt j p
       ∙ a .parentAt j k (omega (arith, u, l .pid j p)) (omega (arith, v, l .pid k q)) (sym (l .parent j p) ∙ e ∙ l .pid k q)
 
+  orphans-gone : Orphans m″
+  orphans-gone j u e =
+      let p : i ≡ j → ⊥ = not-gone j u in
+      l .parentAt j p ∙ a .orphan j (omega (arith, u, l .pid j p)) (sym (l .parent j p) ∙ e)
+
   ages-split : AgesAre z m″ (without i (ageList z m))
   ages-split =
       let b : Both (z .processes) (m fields.younger) (m fields.older) (m fields.oldest 0) (m fields.youngest 0) (us ++ i ∷ vs) =
@@ -74,7 +79,7 @@ module _ {z : machine.Sizes} {m m″ : Memory} {i : ℕ} (a : Ages z m) (used : 
       in
       subst (AgesAre z m″)
       (sym (ap (without i) split ∙ without-split us i vs (distinct-left us i vs distinct) (distinct-right us i vs distinct)))
-      (ages-are (later-both l (both-out us i vs b)) rising-gone living-gone parents-gone)
+      (ages-are (later-both l (both-out us i vs b)) rising-gone living-gone parents-gone orphans-gone)
 
 -- From right links of age, to right links of age without record i.
 pub ages-out

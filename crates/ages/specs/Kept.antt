@@ -71,6 +71,10 @@ pub record AgesAre (z : machine.Sizes) (m : Memory) (xs : List ℕ) : Type 0 whe
 abbrev pub ParentsAt : Memory → Type 0
 ParentsAt m = (i j : ℕ) → Used m i → Used m j → m fields.parent i ≡ m fields.pid j → m fields.parentAt i ≡ suc j
 
+-- Who has no parent names none.
+abbrev pub Orphans : Memory → Type 0
+Orphans m = (i : ℕ) → Used m i → m fields.parent i ≡ 0 → m fields.parentAt i ≡ 0
+
 -- How often a number stands in the list: once where it lives.
 abbrev pub LivingOnce : Memory → List ℕ → Type 0
 LivingOnce m xs = (i : ℕ) → count i xs ≡ bit (isSet (m fields.pid i))
@@ -82,9 +86,10 @@ pub ages-are
     → Rising (m fields.pid) xs
     → LivingOnce m xs
     → ParentsAt m
+    → Orphans m
     → AgesAre z m xs
 unfolding ageList
-ages-are {z} {m} {xs} b r l p =
+ages-are {z} {m} {xs} b r l p o =
     let w : ageList z m ≡ xs = chain-walk (b .forth) in
     record {
       ages =
@@ -94,6 +99,7 @@ ages-are {z} {m} {xs} b r l p =
             rising = subst (Rising (m fields.pid)) (sym w) r;
             living = subst (LivingOnce m) (sym w) l;
             parentAt = p;
+            orphan = o;
           };
       list = w;
     }

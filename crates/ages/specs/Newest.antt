@@ -18,7 +18,7 @@ use Rattle.state.specs.WellFormed.{Used, ageList, Rising, Ages}
 use Rattle.exact.specs.Resumes.{set-test, unset-test}
 use Rattle.ages.specs.Lists.{rising-last, rising-same}
 use Rattle.ages.specs.Both.{both-in}
-use Rattle.ages.specs.Kept.{AgesAre, ages-are, ages-both, free-absent, LivingOnce, ParentsAt, Later, later-both, named, later-named}
+use Rattle.ages.specs.Kept.{AgesAre, ages-are, ages-both, free-absent, LivingOnce, ParentsAt, Orphans, Later, later-both, named, later-named}
 use Rattle.ages.specs.In.{ageInMem}
 
 -- The pid of record i is above every other, and above those of all parents; and its link names its parent, where that lives.
@@ -27,6 +27,7 @@ pub record Newest (m m″ : Memory) (i : ℕ) : Type 0 where
   pub parents : (j : ℕ) → Used m j → m fields.parent j < m″ fields.pid i
   pub parent : m″ fields.parent i < m″ fields.pid i
   pub link : (j : ℕ) → Used m j → m″ fields.parent i ≡ m fields.pid j → m″ fields.parentAt i ≡ suc j
+  pub orphan : m″ fields.parent i ≡ 0 → m″ fields.parentAt i ≡ 0
 
 module _ {z : machine.Sizes} {m m″ : Memory} {i : ℕ} (a : Ages z m) (free : m fields.pid i ≡ 0) (l : Later m (ageInMem m i) m″ i) (n : Newest m m″ i) where
   rising-in : Rising (m″ fields.pid) (ageList z m ++ i ∷ [])
@@ -75,6 +76,15 @@ module _ {z : machine.Sizes} {m m″ : Memory} {i : ℕ} (a : Ages z m) (free : 
           let w : m″ fields.pid k ≡ m fields.pid k = l .pid k (eqb-false i k q) in
           l .parentAt j ne ∙ a .parentAt j k (omega (arith, u, l .pid j ne)) (omega (arith, v, w)) (sym (l .parent j ne) ∙ e ∙ w)
 
+  orphans-in : Orphans m″
+  orphans-in j = go (eqb i j) refl
+    where
+      go : (b : Bool) → eqb i j ≡ b → Used m″ j → m″ fields.parent j ≡ 0 → m″ fields.parentAt j ≡ 0
+      go true p u = subst (λ (x : ℕ). m″ fields.parent x ≡ 0 → m″ fields.parentAt x ≡ 0) (eqb-true i j p) (n .orphan)
+      go false p u =
+          let ne : i ≡ j → ⊥ = eqb-false i j p in
+          λ e. l .parentAt j ne ∙ a .orphan j (omega (arith, u, l .pid j ne)) (sym (l .parent j ne) ∙ e)
+
 -- From right links of age, to right links of age with record i last.
 pub ages-in
     : {z : machine.Sizes} {m m″ : Memory} {i : ℕ}
@@ -90,6 +100,7 @@ ages-in {i = i} a index free l n =
     (rising-in a free l n)
     (living-in a free l n)
     (parents-in a free l n)
+    (orphans-in a free l n)
 
 -- The same where record i is given the pid v, the parent p and the link l to it, and nothing else.
 pub ages-in-named
@@ -101,8 +112,9 @@ pub ages-in-named
     → ((j : ℕ) → Used m j → m fields.parent j < v)
     → p < v
     → ((j : ℕ) → Used m j → p ≡ m fields.pid j → l ≡ suc j)
+    → (p ≡ 0 → l ≡ 0)
     → AgesAre z (named (ageInMem m i) i v p l) (ageList z m ++ i ∷ [])
-ages-in-named {z} {m} {i} v p l a index free above parents parent link =
+ages-in-named {z} {m} {i} v p l a index free above parents parent link orphan =
     let pid : alter (m fields.pid) i v i ≡ v = alter-same (m fields.pid) i v in
     let father : alter (m fields.parent) i p i ≡ p = alter-same (m fields.parent) i p in
     ages-in a index free (later-named m (ageInMem m i) i v p l refl refl refl)
@@ -111,4 +123,5 @@ ages-in-named {z} {m} {i} v p l a index free above parents parent link =
       parents = λ j u. omega (arith, pid, parents j u);
       parent = omega (arith, pid, father, parent);
       link = λ j u e. alter-same (m fields.parentAt) i l ∙ link j u (sym father ∙ e);
+      orphan = λ e. alter-same (m fields.parentAt) i l ∙ orphan (sym father ∙ e);
     })

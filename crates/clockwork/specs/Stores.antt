@@ -14,7 +14,7 @@ use Rattle.state.specs.Places.{sizesIn, memIn, Wrote}
 use Rattle.state.specs.declared.Sizes.{Sizes}
 use Rattle.holds.specs.Holds.{Holds}
 use Rattle.holds.specs.Use.{EachInUse, same-use}
-use Rattle.holds.specs.Touched.{Touched}
+use Rattle.holds.specs.Touched.{Touched, settled-kin}
 use Rattle.timer.specs.Only.{Owing, owing-after, Only, plain, only-none, only-set}
 use Rattle.timer.specs.Aside.{holds-plain}
 use Rattle.timer.specs.Del.{machineIn}
@@ -67,8 +67,8 @@ became {z} {s} {s′} {ws} {M} o w ok e u q =
       memory = d;
       machine = ap (λ (k : Memory). machineOf (sizesIn z) k) d ∙ q;
       touched = record {
-        spares = record { stores = ws; writable = ok; bytes = w .bytes; inUse = u };
+        spares = record { stores = ws; writable = ok; bytes = w .bytes; inUse = u; settled = settled-kin (record { pids = b .same fields.pid refl; parents = b .same fields.parentAt refl }) };
         same =
-            same-use (b .same fields.pid refl) (b .same fields.isQueued refl) (b .same fields.owner refl) (b .same fields.messageLength refl);
+            same-use (b .same fields.pid refl) (b .same fields.parent refl) (b .same fields.parentAt refl) (b .same fields.isQueued refl) (b .same fields.owner refl) (b .same fields.messageLength refl);
       };
     }

@@ -16,7 +16,7 @@ use Rattle.state.specs.Places.{sizesIn, memIn, PutIn, Wrote}
 use Rattle.state.specs.declared.Sizes.{Sizes}
 use Rattle.record.specs.declared.Resume.{Resume}
 use Rattle.record.specs.declared.Resume.the-variants.{Nothing, Sleep, Tsleep, Qlock, Wait}
-use Rattle.record.specs.Resumes.{numberOf, objectOf, conditionOf, meaning, says-again}
+use Rattle.record.specs.Resumes.{case-blank, numberOf, objectOf, conditionOf, meaning, says-again}
 use Rattle.record.specs.Stores.{resumeStores}
 use Rattle.record.specs.Loads.{LoadAsks}
 use Rattle.exact.specs.Bounds.{InBounds, inside}
@@ -123,7 +123,7 @@ called {z} {s} {s₁} {i} {r} a w =
       (record { listed = omega arith; index = l }, a .object, (record { listed = omega arith; index = l }, a .condition, tt)),
     )
     refl
-    (λ n x. keeps-with (others x) (call-placed b (x .placed) (a .nowhere) (a .awake) (numberOf r) (objectOf r) (conditionOf r)))
+    (λ n x. keeps-with (others x) (call-placed b (x .placed) (a .nowhere) (a .awake) (numberOf r) (objectOf r) (conditionOf r) (case-blank r)))
     (call-machine b (a .holds .keeps .placed) (a .nowhere) (a .awake) (numberOf r) (objectOf r) (conditionOf r)
     ∙ ap (λ (x : machine.Resume). withProcess i (withResume x (process (machineIn z s) i)) (machineIn z s)) (says-again r))
     (EachInUse.more (before (a .nowhere .used)) (EachInUse.more (before (a .nowhere .used)) (EachInUse.more (before (a .nowhere .used)) EachInUse.none)))

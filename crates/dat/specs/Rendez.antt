@@ -139,7 +139,7 @@ woke-one {z} {s} {s₁} {s₂} {r} {l} a e ne p w =
     let t : TakenOff z s s₁ r i = taken-off a x p in
     let o : sleeper (machineIn z s) r ≡ some i = sleeper-of (holds-bounds (a .holds)) r ∙ rw x in
     let d : Did z s s₂ same same (wakeStores m r i) (wakeMem m r i) (ready i (withSleeper r none (machineIn z s))) =
-    did-as (did-join (t .did) (w .did) (same-use refl refl refl refl))
+    did-as (did-join (t .did) (w .did) (same-use refl refl refl refl refl refl))
     (ap (λ (k : Memory). to fields.sleeperOf r 0 ∷ awakenStores k i) (t .did .memory))
     (ap (λ (k : Memory). awakenMem k i) (t .did .memory))
     (ap (ready i) (t .did .machine))
@@ -155,7 +155,7 @@ woke-one {z} {s} {s₁} {s₂} {r} {l} a e ne p w =
           ∙ ap (λ (k : ℕ). k ∷ []) (sym (pid-of (holds-bounds (a .holds)) i))
           ∙ sym (wake-some (machineIn z s) r i o .1);
       range = omega (arith, e, at-most (holds-bounds (a .holds)) fields.sleeperOf r);
-      touched = touched-did d (same-use refl refl refl refl);
+      touched = touched-did d (same-use refl refl refl refl refl refl);
     }
 
 -- `sleep_on`: i, whose call is a `sleep` or `tsleep` on r, goes asleep there, where nobody is.
@@ -214,4 +214,4 @@ slept {z} {s} {s₁} {s₂} {s₃} {i} {r} a o p₁ p₂ =
     (sleep-machine b (h₁ .keeps .placed) w c (a .index) f)
     (EachInUse.more (before (omega arith)) (EachInUse.more (before (w .used)) EachInUse.none))
     in
-    record { did = did-as (did-join (o .did) d (same-use refl refl refl refl)) refl (ap (λ (k : Memory). sleepMem k i r) e) (ap (withSleeper r (some i)) (o .did .machine)) }
+    record { did = did-as (did-join (o .did) d (same-use refl refl refl refl refl refl)) refl (ap (λ (k : Memory). sleepMem k i r) e) (ap (withSleeper r (some i)) (o .did .machine)) }

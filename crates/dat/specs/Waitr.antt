@@ -71,7 +71,7 @@ waited {z} {s} {s₁} {s₂} {i} a o p =
     in
     record {
       did =
-          did-as (did-join (o .did) d (same-use refl refl refl refl)) refl (ap (λ (k : Memory). stateMem k i 3) e)
+          did-as (did-join (o .did) d (same-use refl refl refl refl refl refl)) refl (ap (λ (k : Memory). stateMem k i 3) e)
           (ap (λ (x : Machine). withProcess i (withOnWaitr true (process x i)) x) (o .did .machine));
     }
 
@@ -186,7 +186,7 @@ own-woken {z} {s} {s₁} {s₂} {i} {t} a v e p w =
     let u : OwnOff z s s₁ i = own-off a x p in
     let o : process (machineIn z s) i .onWaitr ≡ true = waitr-of (holds-bounds (a .holds)) i (a .holds .keeps .placed .free i) ∙ x in
     let y : Did z s s₂ same same (ownStores (memIn z s) i) (awakenMem (stateMem (memIn z s) i 2) i) (wakeWaitr i (machineIn z s) .machine) =
-    did-as (did-join (u .did) (w .did) (same-use refl refl refl refl))
+    did-as (did-join (u .did) (w .did) (same-use refl refl refl refl refl refl))
     (ap (λ (k : Memory). to fields.stateOf i 2 ∷ awakenStores k i) (u .did .memory))
     (ap (λ (k : Memory). awakenMem k i) (u .did .memory))
     (ap (ready i) (u .did .machine) ∙ sym (wakes-yes (machineIn z s) i o))
@@ -198,5 +198,5 @@ own-woken {z} {s} {s₁} {s₂} {i} {t} a v e p w =
       holds = y .holds;
       machine = y .machine;
       asleep = o;
-      touched = touched-did y (same-use refl refl refl refl);
+      touched = touched-did y (same-use refl refl refl refl refl refl);
     }

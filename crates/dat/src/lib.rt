@@ -19,9 +19,6 @@ pub const READY: u8 = 2;
 
 pub const ASLEEP: u8 = 3;
 
-// The number of a call that is a `wait`.
-const WAIT: u8 = 4;
-
 // The run queue, as the header holds it.
 fn load_run(s: &[u8], z: Sizes) -> RunQueue
     requires { ⌜ Long z (now s) ⌝ }
@@ -167,7 +164,7 @@ fn on_waitr(s: &[u8], z: Sizes, i: Index) -> bool
         return false;
     }
     let call = state::get8(s, z, state::PROCESS, state::RESUME_KIND, i);
-    call == WAIT
+    call == state::WAIT
 }
 
 // Wakes process `i` where it is asleep on its own waitr: was it?

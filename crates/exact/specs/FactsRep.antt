@@ -15,7 +15,7 @@ use Rattle.chain.specs.Lists.{all-map}
 use Rattle.state.specs.Fields as fields
 use Rattle.state.specs.Abs.{isSet, waiterList, timerList, exitList}
 use Rattle.state.specs.WellFormed.{Used, Tagged, Queues, Cells, Ages, ageList}
-use Rattle.rules.specs.Facts.{sumBelow, Facts, WaitsHere}
+use Rattle.rules.specs.Facts.{sumBelow, UnlinkedAt, Facts, WaitsHere}
 use Rattle.exact.specs.Sums.{all-met-past, family-met-past, sum-some}
 use Rattle.exact.specs.Bounds.{InBounds, inside, at-most}
 use Rattle.exact.specs.Resumes.{set-test, unset-test}
@@ -74,7 +74,13 @@ module _ {z : Sizes} {m : Memory} (b : InBounds z m) (f : Facts z m) where
         ready = f .run .ready;
         sleeping = λ r i e. f .rendez r (inside b fields.sleeperOf r (omega arith)) i e .state;
         queueing = λ q. all-map (λ i w. w .state) (waiterList z m q) (facts-waiting q);
+        unlinked = λ i. unlinked i (ltb i (z .processes)) refl;
+        blanks = λ i u. f .records i (inside b fields.pid i u) .used u .blank;
       }
+    where
+      unlinked : (i : ℕ) (c : Bool) → ltb i (z .processes) ≡ c → UnlinkedAt m i
+      unlinked i true l = f .records i (ltb-true i (z .processes) l) .unlinked
+      unlinked i false l = record { zero = λ _. b .past fields.next i (ltb-false i (z .processes) l) }
 
   pub facts-owning : Owning z m
   facts-owning =
@@ -115,6 +121,7 @@ module _ {z : Sizes} {m : Memory} (b : InBounds z m) (f : Facts z m) where
             (λ i l. unset-test (m fields.pid i) (b .past fields.pid i l))
             (f .allLiving);
         parentAt = λ i j u v. f .kin i (inside b fields.pid i u) u j (inside b fields.pid j v) v;
+        orphan = λ i u. f .records i (inside b fields.pid i u) .used u .orphan;
       }
 
   -- The facts say how the bytes represent their machine.

@@ -84,7 +84,7 @@ module _ {z : Sizes} {m : Memory} (b : InBounds z m) (qs : Queues z m) (t : Tagg
 
   well-record : (i : ℕ) → i < z .processes → RecordOk z m i
   unfolding machineOf
-  well-record i l = record { free = t .free i; used = used }
+  well-record i l = record { free = t .free i; unlinked = t .unlinked i; used = used }
     where
       used : Used m i → UsedOk z m i
       used u =
@@ -94,6 +94,8 @@ module _ {z : Sizes} {m : Memory} (b : InBounds z m) (qs : Queues z m) (t : Tagg
             parent = omega (arith, pid-of b i, ap (λ (p : Process). p .parent) (used-of b i u), g .parent i (lives i u));
             quantum = omega (arith, ap (λ (p : Process). p .quantumEnd) (used-of b i u), g .quantum i);
             call = well-call i u;
+            blank = t .blanks i u;
+            orphan = ages .orphan i u;
           }
 
   well-lock : (q : ℕ) → q < z .locks → LockOk z m q

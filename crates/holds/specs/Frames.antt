@@ -81,6 +81,7 @@ module _ {z : Sizes} {m m′ : Memory} where
         rising = rw (a, b, d) (k .rising);
         living = rw (a, b, d) (k .living);
         parentAt = rw (a, f, g) (k .parentAt);
+        orphan = rw (a, f, g) (k .orphan);
       }
 
   pub index-same
@@ -108,6 +109,7 @@ module _ {z : Sizes} {m m′ : Memory} where
       → (state : m′ fields.stateOf ≡ m fields.stateOf)
       → (kind : m′ fields.resumeKind ≡ m fields.resumeKind)
       → (object : m′ fields.resumeObject ≡ m fields.resumeObject)
+      → (condition : m′ fields.resumeCondition ≡ m fields.resumeCondition)
       → (up : m′ fields.up ≡ m fields.up)
       → (next : m′ fields.next ≡ m fields.next)
       → (head : m′ fields.runHead ≡ m fields.runHead)
@@ -120,7 +122,7 @@ module _ {z : Sizes} {m m′ : Memory} where
       → Placed z m n
       → Placed z m′ n
   unfolding runList waiterList
-  placed-same n pid state kind object up next head tail sleeper lockHead lockTail count machines p =
+  placed-same n pid state kind object condition up next head tail sleeper lockHead lockTail count machines p =
       record {
         free = rw (pid, state) (p .free);
         used = rw (pid, state) (p .used);
@@ -130,6 +132,8 @@ module _ {z : Sizes} {m m′ : Memory} where
         locks = rw (next, lockHead, lockTail) (p .locks);
         waiting = λ q. waits q;
         asleep = rw (count, machines) (p .asleep);
+        unlinked = rw (state, kind, next) (p .unlinked);
+        blanks = rw (pid, kind, object, condition) (p .blanks);
       }
     where
       sleeps : (r i : ℕ) → m fields.sleeperOf r ≡ suc i → SleepsHere m′ r i

@@ -12,7 +12,7 @@ use Rattle.chain.specs.Links.{Chain, Queue}
 use Rattle.state.specs.Fields as fields
 use Rattle.state.specs.Abs.{waiterList, timerList, machineOf}
 use Rattle.state.specs.Places.{sizesIn, memIn}
-use Rattle.state.specs.WellFormed.{markValue, Used, Cells, Ages, Index}
+use Rattle.state.specs.WellFormed.{markValue, Used, Unlinked, Blanks, Cells, Ages, Index}
 use Rattle.state.specs.declared.Sizes.{Sizes}
 use Rattle.rules.specs.Facts.{RunOk, SleepsHere, WaitsHere}
 
@@ -28,7 +28,8 @@ pub record Header (z : machine.Sizes) (m : Memory) : Type 0 where
   pub hz : m fields.hz 0 ≡ z .hz
 
 -- The places of processes: each queue's links run from head to tail once, who is in a place has its state and its call, and asleep
--- counts the sleepers and those, as many as owed, who have been taken off their place and are not yet counted off.
+-- counts the sleepers and those, as many as owed, who have been taken off their place and are not yet counted off; links, objects and conditions are 0
+-- where there are none.
 pub record Placed (z : machine.Sizes) (m : Memory) (owed : ℕ) : Type 0 where
   pub free : (i : ℕ) → m fields.pid i ≡ 0 → m fields.stateOf i ≡ 0
   pub used : (i : ℕ) → Used m i → 0 < m fields.stateOf i
@@ -38,6 +39,8 @@ pub record Placed (z : machine.Sizes) (m : Memory) (owed : ℕ) : Type 0 where
   pub locks : (q : ℕ) → Queue (z .processes) (m fields.next) (m fields.lockHead q) (m fields.lockTail q) (waiterList z m q)
   pub waiting : (q : ℕ) → Each (WaitsHere m q) (waiterList z m q)
   pub asleep : m fields.asleepCount 0 ≡ owed + machine.asleep (machineOf z m)
+  pub unlinked : Unlinked (m fields.stateOf) (m fields.resumeKind) (m fields.next)
+  pub blanks : Blanks (m fields.pid) (m fields.resumeKind) (m fields.resumeObject) (m fields.resumeCondition)
 
 -- The timer queue's links end, and each timer's flag says whether it is queued.
 pub record Timed (z : machine.Sizes) (m : Memory) : Type 0 where

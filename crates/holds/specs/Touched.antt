@@ -1,7 +1,7 @@
 -- Which bytes an operation or a step writes: those of the layout's fields that the machine uses before or after, and no other.
 use mathlib.Core.Path.{_≡_, refl, sym, ap, subst, _∙_}
 use mathlib.Core.List.{List, [], _∷_, _++_}
-use Prim.Native.Nat.{ℕ, zero, suc, _+_, _/_, _%_, _≤_}
+use Prim.Native.Nat.{ℕ, zero, suc, _+_, _/_, _%_, _≤_, _<_}
 use native.Mathlib.Omega.{arith}
 use lib.ListN.{length, drop, set}
 use lib.Seq.{drop-set-lt}
@@ -16,8 +16,23 @@ use Rattle.state.specs.Ranges.{ranges}
 use Rattle.state.specs.Places.{sizesIn, memIn, totalIn}
 use Rattle.state.specs.declared.Sizes.{Sizes}
 use Rattle.holds.specs.Holds.{Holds}
-use Rattle.holds.specs.Use.{used, EachInUse, none, SameUse, same-use, same-join, Fewer, fewer-same, Between, between-first, between-last, in-use-join, updates-spare}
+use Rattle.holds.specs.Use.{used, EachInUse, none, SameKin, kin-same, SameUse, same-use, same-join, Fewer, fewer-same, Smaller, between-smaller, Between, between-first, between-last, in-use-join, updates-spare}
 use Rattle.holds.specs.Did.{Did, writesIn, WritableIn, writable-join}
+
+-- The link of who lives in m to its parent is the same in m′.
+pub record Settled (m m′ : Memory) : Type 0 where
+  pub stays : (i : ℕ) → 0 < m fields.pid i → m′ fields.parentAt i ≡ m fields.parentAt i
+
+pub settled-kin : {m m′ : Memory} → SameKin m m′ → Settled m m′
+settled-kin k = record { stays = λ i u. ap (λ (g : ℕ → ℕ). g i) (k .parents) }
+
+-- One after another, where nobody is freed first, or the links stay then.
+settled-first : {m m₁ m₂ : Memory} → SameKin m m₁ → Settled m₁ m₂ → Settled m m₂
+settled-first k q =
+    record { stays = λ i u. q .stays i (subst (λ (g : ℕ → ℕ). 0 < g i) (sym (k .pids)) u) ∙ ap (λ (g : ℕ → ℕ). g i) (k .parents) }
+
+settled-last : {m m₁ m₂ : Memory} → Settled m m₁ → SameKin m₁ m₂ → Settled m m₂
+settled-last p k = record { stays = λ i u. ap (λ (g : ℕ → ℕ). g i) (k .parents) ∙ p .stays i u }
 
 -- The bytes s became s′ by stores to fields, each in range and to what the machine uses before or after.
 pub record Spares (z : Sizes) (s s′ : List ℕ) : Type 0 where
@@ -25,6 +40,8 @@ pub record Spares (z : Sizes) (s s′ : List ℕ) : Type 0 where
   pub writable : WritableIn z stores
   pub bytes : s′ ≡ writesIn z s stores
   pub inUse : EachInUse z (memIn z s) (memIn z s′) stores
+  -- the link of who lived to its parent stays
+  pub settled : Settled (memIn z s) (memIn z s′)
 
 -- And what is used stays: nobody is made or freed, and no timer queued or taken off.
 pub record Touched (z : Sizes) (s s′ : List ℕ) : Type 0 where
@@ -33,10 +50,14 @@ pub record Touched (z : Sizes) (s s′ : List ℕ) : Type 0 where
 
 -- By none.
 same-memory : {z : Sizes} {s s′ : List ℕ} → s′ ≡ s → SameUse z (memIn z s) (memIn z s′)
-same-memory {z} e = record { same = ap (λ (t : List ℕ). used z (memIn z t)) e }
+same-memory {z} e = record { same = ap (λ (t : List ℕ). used z (memIn z t)) e; kin = kin-same (ap (memIn z) e) }
 
 pub touched-same : {z : Sizes} {s s′ : List ℕ} → s′ ≡ s → Touched z s s′
-touched-same e = record { spares = record { stores = []; writable = tt; bytes = e; inUse = none }; same = same-memory e }
+touched-same {z} e =
+    record {
+      spares = record { stores = []; writable = tt; bytes = e; inUse = none; settled = settled-kin (kin-same (ap (memIn z) e)) };
+      same = same-memory e;
+    }
 
 pub touched-none : {z : Sizes} {s : List ℕ} → Touched z s s
 touched-none = touched-same refl
@@ -46,13 +67,14 @@ spares-none = touched-none .spares
 
 -- By those of an operation.
 pub spares-did
-    : {z : Sizes} {s s′ : List ℕ} {f g : ℕ → ℕ} {ws : List Write} {k : Memory} {a : Machine} → Did z s s′ f g ws k a → Spares z s s′
-spares-did {z} {s} {ws = ws} d =
+    : {z : Sizes} {s s′ : List ℕ} {f g : ℕ → ℕ} {ws : List Write} {k : Memory} {a : Machine} → Did z s s′ f g ws k a → Settled (memIn z s) k → Spares z s s′
+spares-did {z} {s} {ws = ws} d l =
     record {
       stores = ws;
       writable = d .writable;
       bytes = d .bytes;
       inUse = subst (λ (m : Memory). EachInUse z (memIn z s) m ws) (sym (d .memory)) (d .inUse);
+      settled = subst (Settled (memIn z s)) (sym (d .memory)) l;
     }
 
 pub touched-did
@@ -61,12 +83,12 @@ pub touched-did
     → SameUse z (memIn z s) k
     → Touched z s s′
 touched-did {z} {s} d u =
-    record { spares = spares-did d; same = subst (λ (m : Memory). SameUse z (memIn z s) m) (sym (d .memory)) u }
+    record { spares = spares-did d (settled-kin (u .kin)); same = subst (λ (m : Memory). SameUse z (memIn z s) m) (sym (d .memory)) u }
 
 -- By some after others.
 pub spares-join
-    : {z : Sizes} {s s₁ s₂ : List ℕ} → Spares z s s₁ → Spares z s₁ s₂ → Between z (memIn z s) (memIn z s₁) (memIn z s₂) → Spares z s s₂
-spares-join {z} {s} p q t =
+    : {z : Sizes} {s s₁ s₂ : List ℕ} → Spares z s s₁ → Spares z s₁ s₂ → Between z (memIn z s) (memIn z s₁) (memIn z s₂) → Settled (memIn z s) (memIn z s₂) → Spares z s s₂
+spares-join {z} {s} p q t l =
     record {
       stores = p .stores ++ q .stores;
       writable = writable-join z (p .stores) (q .stores) (p .writable) (q .writable);
@@ -75,24 +97,30 @@ spares-join {z} {s} p q t =
           ∙ ap (λ (t : List ℕ). writesIn z t (q .stores)) (p .bytes)
           ∙ sym (writes-join fields.layout1 (fields.counts (sizesIn z)) s (p .stores) (q .stores));
       inUse = in-use-join t (p .inUse) (q .inUse);
+      settled = l;
     }
 
 pub touched-join : {z : Sizes} {s s₁ s₂ : List ℕ} → Touched z s s₁ → Touched z s₁ s₂ → Touched z s s₂
 touched-join p q =
     record {
-      spares = spares-join (p .spares) (q .spares) (between-first (fewer-same (p .same)));
+      spares = spares-join (p .spares) (q .spares) (between-first (fewer-same (p .same))) (settled-first (p .same .kin) (q .spares .settled));
       same = same-join (p .same) (q .same);
     }
 
 -- Where the first of two leaves what is used, or takes from it; and where the second leaves it.
 pub spares-after : {z : Sizes} {s s₁ s₂ : List ℕ} → Touched z s s₁ → Spares z s₁ s₂ → Spares z s s₂
-spares-after p q = spares-join (p .spares) q (between-first (fewer-same (p .same)))
+spares-after p q = spares-join (p .spares) q (between-first (fewer-same (p .same))) (settled-first (p .same .kin) (q .settled))
 
 pub spares-fewer : {z : Sizes} {s s₁ s₂ : List ℕ} → Spares z s s₁ → Fewer z (memIn z s) (memIn z s₁) → Spares z s₁ s₂ → Spares z s s₂
-spares-fewer p u q = spares-join p q (between-first u)
+spares-fewer p u q = spares-join p q (between-first u) (settled-first (u .kin) (q .settled))
+
+-- Where it frees somebody, the second leaves the links to parents.
+pub spares-gone
+    : {z : Sizes} {s s₁ s₂ : List ℕ} → Spares z s s₁ → Smaller z (memIn z s) (memIn z s₁) → Spares z s₁ s₂ → SameKin (memIn z s₁) (memIn z s₂) → Spares z s s₂
+spares-gone p u q k = spares-join p q (between-smaller u) (settled-last (p .settled) k)
 
 pub spares-before : {z : Sizes} {s s₁ s₂ : List ℕ} → Spares z s s₁ → Touched z s₁ s₂ → Spares z s s₂
-spares-before p q = spares-join p (q .spares) (between-last (q .same))
+spares-before p q = spares-join p (q .spares) (between-last (q .same)) (settled-last (p .settled) (q .same .kin))
 
 -- The length stays.
 pub spares-length : {z : Sizes} {s s′ : List ℕ} → Spares z s s′ → length s′ ≡ length s

@@ -2,28 +2,35 @@
 use mathlib.Core.Path.{_≡_, refl, sym, ap, subst, _∙_}
 use mathlib.Core.Bool.{Bool, true, false, not, _&&_, _||_}
 use mathlib.Core.List.{List, [], _∷_, _++_}
-use Prim.Native.Nat.{ℕ, zero, suc, _+_, _-_, _*_, _/_, _%_, _<_, _≤_}
+use Prim.Native.Nat.{ℕ, _-_, _/_, _%_, _<_}
 use native.Mathlib.Omega.{arith}
 use borrow.Author.Tests.{eqb-true}
 use lib.Dec.{eqb, ltb}
 use Rattle.machine.specs.Basics.{if_then_else_}
+use Rattle.machine.specs.Machine as machine
 use Rattle.layout.specs.Memory.{Memory, upd}
-use Rattle.layout.specs.Writes.{Write, to, updates}
+use Rattle.layout.specs.Writes.{Write, updates}
 use Rattle.state.specs.Fields as fields
 use Rattle.state.specs.Abs.{isSet}
+use Rattle.state.specs.Places.{sizesIn}
 use Rattle.state.specs.declared.Sizes.{Sizes}
 
 -- The fields from one to another in the table.
 abbrev pub fromTo : ℕ → ℕ → ℕ → Bool
 fromTo first last f = not (ltb f first) && not (ltb last f)
 
+-- The link to the parent is used where there is no parent (it is 0 then), and where the parent lives.
+abbrev pub kinUse : (pids parents links : ℕ → ℕ) → ℕ → ℕ
+kinUse pids parents links i = if eqb (parents i) 0 || eqb (pids (links i - 1)) (parents i) then pids i else 0
+
 -- Whether the machine may use field f of number i: 0 where it does not. It does not use the fields and the name of a free record, what a
 -- free cell keeps, the bytes behind a message, the deadline and the link of a timer that is not queued, and a setting of a process's own
--- timer. A record in use is used whole, though its `next` means nothing in no queue, its `parentAt` nothing without a living parent, and its
--- `resumeObject` and `resumeCondition` nothing in a call that has none.
-unfoldable pub usedBy : (timers : ℕ) → (pids queued owners lengths : ℕ → ℕ) → ℕ → ℕ → ℕ
-usedBy timers pids queued owners lengths f i =
-    if fromTo fields.pid fields.resumeObject f
+-- timer. Of a record in use it uses all but the link to a parent that has gone; what else such a record does not need is 0 (`Blank`, `NoLink`).
+unfoldable pub usedBy : (timers : ℕ) → (pids parents links queued owners lengths : ℕ → ℕ) → ℕ → ℕ → ℕ
+usedBy timers pids parents links queued owners lengths f i =
+    if eqb f fields.parentAt
+    then kinUse pids parents links i
+    else if fromTo fields.pid fields.resumeObject f
     then pids i
     else if eqb f fields.nameByte
     then pids (i / 28)
@@ -35,37 +42,68 @@ usedBy timers pids queued owners lengths f i =
     then owners i
     else if eqb f fields.messageByte then (if isSet (owners (i / 127)) then lengths (i / 127) - i % 127 else 0) else 1
 
-abbrev pub used : Sizes → Memory → ℕ → ℕ → ℕ
-used z m = usedBy (z .timers) (m fields.pid) (m fields.isQueued) (m fields.owner) (m fields.messageLength)
+-- At the machine's sizes, and at those that the code carries.
+abbrev pub usedIn : machine.Sizes → Memory → ℕ → ℕ → ℕ
+usedIn z m = usedBy (z .timers) (m fields.pid) (m fields.parent) (m fields.parentAt) (m fields.isQueued) (m fields.owner) (m fields.messageLength)
 
--- The same is used in m′ as in m; no more than in m; and in m₁ no more than in m and m₂ together.
+abbrev pub used : Sizes → Memory → ℕ → ℕ → ℕ
+used z m = usedIn (sizesIn z) m
+
+-- Nobody is made or freed, and the links to parents stay.
+pub record SameKin (m m′ : Memory) : Type 0 where
+  pub pids : m′ fields.pid ≡ m fields.pid
+  pub parents : m′ fields.parentAt ≡ m fields.parentAt
+
+pub kin-join : {m m₁ m₂ : Memory} → SameKin m m₁ → SameKin m₁ m₂ → SameKin m m₂
+kin-join p q = record { pids = q .pids ∙ p .pids; parents = q .parents ∙ p .parents }
+
+pub kin-same : {m m′ : Memory} → m′ ≡ m → SameKin m m′
+kin-same e = record { pids = ap (λ (x : Memory). x fields.pid) e; parents = ap (λ (x : Memory). x fields.parentAt) e }
+
+pub kin-at : {m k m′ : Memory} → m′ ≡ k → SameKin m k → SameKin m m′
+kin-at {m} e h = subst (SameKin m) (sym e) h
+
+-- The same is used in m′ as in m; no more than in m, with nobody freed, or with somebody; and in m₁ no more than in m and m₂ together.
 pub record SameUse (z : Sizes) (m m′ : Memory) : Type 0 where
   pub same : used z m′ ≡ used z m
+  pub kin : SameKin m m′
 
 pub record Fewer (z : Sizes) (m m′ : Memory) : Type 0 where
   pub fewer : (f i : ℕ) → used z m f i ≡ 0 → used z m′ f i ≡ 0
+  pub kin : SameKin m m′
+
+pub record Smaller (z : Sizes) (m m′ : Memory) : Type 0 where
+  pub smaller : (f i : ℕ) → used z m f i ≡ 0 → used z m′ f i ≡ 0
 
 pub record Between (z : Sizes) (m m₁ m₂ : Memory) : Type 0 where
   pub between : (f i : ℕ) → used z m f i ≡ 0 → used z m₂ f i ≡ 0 → used z m₁ f i ≡ 0
 
--- What is used goes by four fields.
+-- What is used goes by six fields.
 pub same-use
     : {z : Sizes} {m m′ : Memory}
     → m′ fields.pid ≡ m fields.pid
+    → m′ fields.parent ≡ m fields.parent
+    → m′ fields.parentAt ≡ m fields.parentAt
     → m′ fields.isQueued ≡ m fields.isQueued
     → m′ fields.owner ≡ m fields.owner
     → m′ fields.messageLength ≡ m fields.messageLength
     → SameUse z m m′
-same-use {z} a b c d = record { same = λ j. usedBy (z .timers) (a j) (b j) (c j) (d j) }
+same-use {z} a p l b c d = record { same = λ j. usedBy (z .timers) (a j) (p j) (l j) (b j) (c j) (d j); kin = record { pids = a; parents = l } }
 
 pub same-join : {z : Sizes} {m m₁ m₂ : Memory} → SameUse z m m₁ → SameUse z m₁ m₂ → SameUse z m m₂
-same-join p q = record { same = q .same ∙ p .same }
+same-join p q = record { same = q .same ∙ p .same; kin = kin-join (p .kin) (q .kin) }
 
 pub fewer-same : {z : Sizes} {m m′ : Memory} → SameUse z m m′ → Fewer z m m′
-fewer-same e = record { fewer = λ f i a. ap (λ (g : ℕ → ℕ → ℕ). g f i) (e .same) ∙ a }
+fewer-same e = record { fewer = λ f i a. ap (λ (g : ℕ → ℕ → ℕ). g f i) (e .same) ∙ a; kin = e .kin }
 
 pub fewer-join : {z : Sizes} {m m₁ m₂ : Memory} → Fewer z m m₁ → Fewer z m₁ m₂ → Fewer z m m₂
-fewer-join p q = record { fewer = λ f i a. q .fewer f i (p .fewer f i a) }
+fewer-join p q = record { fewer = λ f i a. q .fewer f i (p .fewer f i a); kin = kin-join (p .kin) (q .kin) }
+
+pub smaller-join : {z : Sizes} {m m₁ m₂ : Memory} → Fewer z m m₁ → Smaller z m₁ m₂ → Smaller z m m₂
+smaller-join p q = record { smaller = λ f i a. q .smaller f i (p .fewer f i a) }
+
+pub between-smaller : {z : Sizes} {m m₁ m₂ : Memory} → Smaller z m m₁ → Between z m m₁ m₂
+between-smaller p = record { between = λ f i a b. p .smaller f i a }
 
 pub between-first : {z : Sizes} {m m₁ m₂ : Memory} → Fewer z m m₁ → Between z m m₁ m₂
 between-first p = record { between = λ f i a b. p .fewer f i a }

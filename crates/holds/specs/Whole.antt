@@ -62,6 +62,8 @@ tagged-of {z} {m} p =
       ready = p .run .ready;
       sleeping = λ r i e. p .rendez r i e .state;
       queueing = λ q. all-map (λ i w. w .state) (waiterList z m q) (p .waiting q);
+      unlinked = p .unlinked;
+      blanks = p .blanks;
     }
 
 -- `Rep` at sizes that are not yet known to be the header's.
@@ -103,6 +105,8 @@ module _ {z : machine.Sizes} {m : Memory} (b : InBounds z m) (q : Queues z m) (t
         locks = every;
         waiting = well-waits b t g;
         asleep = q .asleep ∙ sym (zero-add _);
+        unlinked = t .unlinked;
+        blanks = t .blanks;
       }
     where
       -- past the last lock nobody waits

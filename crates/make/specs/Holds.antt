@@ -134,6 +134,8 @@ tagged-fresh z =
       ready = rw (walk-none (z .processes) (freshMemory z fields.next)) tt;
       sleeping = λ r i e. absurd (omega (arith, e));
       queueing = λ q. rw (walk-none (z .processes) (freshMemory z fields.next)) tt;
+      unlinked = λ i. record { zero = λ _. refl };
+      blanks = λ i u. absurd (not-suc-le-zero u);
     }
 
 cells-fresh : (z : Sizes) → Cells z (freshMemory z)
@@ -156,6 +158,7 @@ ages-fresh z =
       rising = rw (walk-none (z .processes) g) tt;
       living = λ i. rw (walk-none (z .processes) g) refl;
       parentAt = λ i j u. absurd (not-suc-le-zero u);
+      orphan = λ i u. absurd (not-suc-le-zero u);
     }
 
 index-fresh : (z : Sizes) → Index z (freshMemory z)

@@ -17,13 +17,14 @@ use Rattle.state.specs.Fields as fields
 use Rattle.state.specs.Abs.{table, linkTo, isSet, runList, waiterList, timerList, exitList, waitsOn, exitAt, processAt, machineOf}
 use Rattle.state.specs.Tables.{table-length}
 use Rattle.state.specs.WellFormed.{Used}
+use Rattle.state.specs.Blanks.{is-linked-waits}
 use Rattle.rules.specs.Facts.{RunOk, SleepsHere, WaitsHere}
 use Rattle.exact.specs.Bounds.{InBounds, inside}
 use Rattle.exact.specs.Parts.{lock-of}
 use Rattle.queue.specs.Other.{Apart, LinkAbsent, absent-by, apart-by, final-absent, after-push, queue-alter}
 use Rattle.holds.specs.Holds.{Placed}
 use Rattle.holds.specs.Parts.{table-same, table-set, asleep-lock}
-use Rattle.places.specs.Nowhere.{Nowhere, each-alter, at-or-other, waits-call, waits-alike, not-running, not-ready, state-used, waiting-state}
+use Rattle.places.specs.Nowhere.{Nowhere, unlinked-state, unlinked-pop, unlinked-push, each-alter, at-or-other, waits-call, waits-alike, not-running, not-ready, state-used, waiting-state}
 use Rattle.places.specs.Machines.{recordWith, lockWith}
 
 -- The call of i is a `qlock` of lock q.
@@ -167,6 +168,12 @@ module _ {z : Sizes} {m : Memory} {n q i : ℕ} (b : InBounds z m) (p : Placed z
             (record { state = alter-same (m fields.stateOf) i 3; kind = c .kind; object = c .object }, tt)))
             (λ k ne. subst (λ (xs : List ℕ). Each (WaitsHere (enqueueMem m q i) k) xs) (sym (enqueue-other k ne)) (others k));
         asleep = p .asleep ∙ omega (arith, enqueue-asleep);
+        unlinked =
+            unlinked-push (m fields.lockTail q) i (waiterList z m q) (p .locks q .ends)
+            (all-map (λ j s. is-linked-waits (alter (m fields.stateOf) i 3 j) (m fields.resumeKind j) (s .state) (s .kind)) (waiterList z m q) (others q))
+            (is-linked-waits (alter (m fields.stateOf) i 3 i) (m fields.resumeKind i) (alter-same (m fields.stateOf) i 3) (c .kind))
+            (unlinked-state i 3 (w .next) (p .unlinked));
+        blanks = p .blanks;
       }
     where
       sleeps : (r j : ℕ) → m fields.sleeperOf r ≡ suc j → SleepsHere (enqueueMem m q i) r j
@@ -294,6 +301,8 @@ module _ {z : Sizes} {m : Memory} {n i : ℕ} (b : InBounds z m) (p : Placed z m
             (same q xs (subst (λ (ys : List ℕ). Each (WaitsHere m q) ys) x (p .waiting q) .1)))
             (λ k ne. subst (λ (ys : List ℕ). Each (WaitsHere (dequeueMem m q i) k) ys) (sym (dequeue-other k ne)) (same k (waiterList z m k) (p .waiting k)));
         asleep = p .asleep ∙ omega (arith, dequeue-asleep);
+        unlinked = unlinked-pop i (p .unlinked);
+        blanks = p .blanks;
       }
     where
       same : (k : ℕ) (ys : List ℕ) → Each (WaitsHere m k) ys → Each (WaitsHere (dequeueMem m q i) k) ys
@@ -313,6 +322,7 @@ module _ {z : Sizes} {m : Memory} {n i : ℕ} (b : InBounds z m) (p : Placed z m
             (subst (λ (ys : List ℕ). Absent i ys) (sym dequeue-this) (queue-before .chain .distinct .0))
             (λ k ne. subst (λ (ys : List ℕ). Absent i ys) (sym (dequeue-other k ne)) (absent-other k ne));
         waitr = waits-call (dequeueMem m q i) i (λ e. omega (arith, e, first-waits .kind));
+        next = alter-same (m fields.next) i 0;
       }
 
 -- The memory once lock q is held, or not.
@@ -359,4 +369,6 @@ module _ {z : Sizes} {m : Memory} {n q : ℕ} (b : InBounds z m) (p : Placed z m
         locks = p .locks;
         waiting = λ k. all-map (λ j h. record { state = h .state; kind = h .kind; object = h .object }) (waiterList z m k) (p .waiting k);
         asleep = p .asleep ∙ omega (arith, s, u, ap asleep (held-machine p q v));
+        unlinked = p .unlinked;
+        blanks = p .blanks;
       }

@@ -1,9 +1,9 @@
 -- A process that has been taken off its place and not yet put on another.
-use mathlib.Core.Path.{_≡_, refl, sym, ap, subst, _∙_}
-use mathlib.Core.Bool.{Bool, true, false, _&&_}
+use mathlib.Core.Path.{_≡_, refl, sym, ap, subst, subst₃, _∙_}
+use mathlib.Core.Bool.{Bool, true, false, _&&_, false≢true}
 use mathlib.Core.List.{List, [], _∷_}
 use mathlib.Core.Logic.{_⊎_, ⊎-elim}
-use Prim.Native.Nat.{ℕ, suc, _<_}
+use Prim.Native.Nat.{ℕ, zero, suc, _<_}
 use native.Mathlib.Omega.{arith}
 use borrow.Author.Tests.{eqb-true, eqb-false, eq-eqb, ne-eqb}
 use lib.Dec.{eqb}
@@ -11,15 +11,15 @@ use Rattle.machine.specs.Machine.{Sizes}
 use Rattle.machine.specs.Good.{Each}
 use Rattle.layout.specs.Memory.{Memory, alter}
 use Rattle.chain.specs.Lists.{Absent, all-map, all-both}
-use Rattle.chain.specs.Links.{alter-other}
+use Rattle.chain.specs.Links.{final, pushLinks, alter-same, alter-other}
 use Rattle.state.specs.Fields as fields
 use Rattle.state.specs.Abs.{runList, waiterList, waitsOn}
-use Rattle.state.specs.WellFormed.{Used}
+use Rattle.state.specs.WellFormed.{Used, isLinked, Blank, Blanks, NoLink, Unlinked}
 use Rattle.rules.specs.Facts.{SleepsHere, WaitsHere}
 use Rattle.queue.specs.Other.{absent-by}
 use Rattle.holds.specs.Holds.{Placed}
 
--- Record i has a living process, and it is in no place.
+-- Record i has a living process, and it is in no place, and linked to none.
 pub record Nowhere (z : Sizes) (m : Memory) (i : ℕ) : Type 0 where
   pub used : Used m i
   pub up : m fields.up 0 ≡ suc i → ⊥
@@ -27,6 +27,7 @@ pub record Nowhere (z : Sizes) (m : Memory) (i : ℕ) : Type 0 where
   pub rendez : (r : ℕ) → m fields.sleeperOf r ≡ suc i → ⊥
   pub locks : (q : ℕ) → Absent i (waiterList z m q)
   pub waitr : waitsOn m i ≡ false
+  pub next : m fields.next i ≡ 0
 
 -- A field changed at i, for those who are not i.
 pub each-alter : (g : ℕ → ℕ) (i v c : ℕ) (xs : List ℕ) → Absent i xs → Each (λ x. g x ≡ c) xs → Each (λ x. alter g i v x ≡ c) xs
@@ -39,6 +40,55 @@ at-or-other P i a b j = go (eqb i j) refl
     go : (c : Bool) → eqb i j ≡ c → P j
     go true e = subst P (eqb-true i j e) a
     go false e = b j (eqb-false i j e)
+
+-- Links, where a state or a call is stored for one who has none.
+pub unlinked-state : {s k g : ℕ → ℕ} (i v : ℕ) → g i ≡ 0 → Unlinked s k g → Unlinked (alter s i v) k g
+unlinked-state {s} {k} {g} i v e h =
+    at-or-other (λ (j : ℕ). NoLink (alter s i v j) (k j) (g j)) i (record { zero = λ _. e })
+    (λ j ne. subst (λ (x : ℕ). NoLink x (k j) (g j)) (sym (alter-other s i v j ne)) (h j))
+
+pub unlinked-call : {s k g : ℕ → ℕ} (i v : ℕ) → g i ≡ 0 → Unlinked s k g → Unlinked s (alter k i v) g
+unlinked-call {s} {k} {g} i v e h =
+    at-or-other (λ (j : ℕ). NoLink (s j) (alter k i v j) (g j)) i (record { zero = λ _. e })
+    (λ j ne. subst (λ (x : ℕ). NoLink (s j) x (g j)) (sym (alter-other k i v j ne)) (h j))
+
+-- Where the link of one is taken off.
+pub unlinked-pop : {s k g : ℕ → ℕ} (i : ℕ) → Unlinked s k g → Unlinked s k (alter g i 0)
+unlinked-pop {s} {k} {g} i h =
+    at-or-other (λ (j : ℕ). NoLink (s j) (k j) (alter g i 0 j)) i (record { zero = λ _. alter-same g i 0 })
+    (λ j ne. subst (λ (x : ℕ). NoLink (s j) (k j) x) (sym (alter-other g i 0 j ne)) (h j))
+
+-- And where one who has a link then is queued behind others who have one.
+final-met : (P : ℕ → Type 0) (d : ℕ) (xs : List ℕ) (u : ℕ) → ((x : ℕ) → d ≡ suc x → P x) → Each P xs → final d xs ≡ suc u → P u
+final-met P d [] u h a e = h u e
+final-met P d (x ∷ xs) u h a e = final-met P (suc x) xs u (λ y q. subst P (omega (arith, q)) (a .0)) (a .1) e
+
+pub unlinked-push
+    : {s k g : ℕ → ℕ} (t i : ℕ) (xs : List ℕ)
+    → t ≡ final 0 xs
+    → Each (λ j. isLinked (s j) (k j) ≡ true) xs
+    → isLinked (s i) (k i) ≡ true
+    → Unlinked s k g
+    → Unlinked s k (pushLinks g t i)
+unlinked-push {s} {k} {g} t i xs e a l h j = record { zero = λ d. go t e d ∙ h j .zero d }
+  where
+    other : (x : ℕ) → isLinked (s x) (k x) ≡ true → isLinked (s j) (k j) ≡ false → x ≡ j → ⊥
+    other x p q r = false≢true (sym q ∙ ap (λ (y : ℕ). isLinked (s y) (k y)) (sym r) ∙ p)
+
+    go : (u : ℕ) → u ≡ final 0 xs → isLinked (s j) (k j) ≡ false → pushLinks g u i j ≡ g j
+    go zero q d = alter-other g i 0 j (other i l d)
+    go (suc u) q d =
+        alter-other (alter g i 0) u (suc i) j
+        (other u (final-met (λ (x : ℕ). isLinked (s x) (k x) ≡ true) 0 xs u (λ x r. absurd (omega (arith, r))) a (sym q)) d)
+        ∙ alter-other g i 0 j (other i l d)
+
+-- Objects and conditions, where a call is stored.
+pub blanks-call
+    : {p k o c : ℕ → ℕ} (i k′ o′ c′ : ℕ) → Blank k′ o′ c′ → Blanks p k o c → Blanks p (alter k i k′) (alter o i o′) (alter c i c′)
+blanks-call {p} {k} {o} {c} i k′ o′ c′ b h =
+    at-or-other (λ (j : ℕ). 0 < p j → Blank (alter k i k′ j) (alter o i o′ j) (alter c i c′ j)) i
+    (λ _. subst₃ Blank (sym (alter-same k i k′)) (sym (alter-same o i o′)) (sym (alter-same c i c′)) b)
+    (λ j ne u. subst₃ Blank (sym (alter-other k i k′ j ne)) (sym (alter-other o i o′ j ne)) (sym (alter-other c i c′ j ne)) (h j u))
 
 -- Two states or calls that differ.
 pub differ : {a b x y : ℕ} → a ≡ x → b ≡ y → (x ≡ y → ⊥) → a ≡ b → ⊥

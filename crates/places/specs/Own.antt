@@ -20,14 +20,15 @@ use Rattle.chain.specs.Links.{alter-same, alter-other}
 use Rattle.state.specs.Fields as fields
 use Rattle.state.specs.Abs.{table, linkTo, resumeOf, runList, waiterList, timerList, exitList, waitsOn, exitAt, processAt, machineOf}
 use Rattle.state.specs.Tables.{table-length}
-use Rattle.state.specs.WellFormed.{Used}
+use Rattle.state.specs.WellFormed.{Used, Blank}
+use Rattle.state.specs.Blanks.{no-link}
 use Rattle.rules.specs.Facts.{RunOk, SleepsHere, WaitsHere}
 use Rattle.exact.specs.Bounds.{InBounds, inside}
 use Rattle.exact.specs.Parts.{usedAt, used-at, used-of, process-of}
 use Rattle.queue.specs.Other.{absent-by}
 use Rattle.holds.specs.Holds.{Placed}
 use Rattle.holds.specs.Parts.{table-same, table-set, asleep-process}
-use Rattle.places.specs.Nowhere.{Nowhere, each-alter, at-or-other, waits-state, waits-call, waits-alike, not-running, not-ready, not-asleep, not-waiting, state-used, waiting-state}
+use Rattle.places.specs.Nowhere.{Nowhere, unlinked-state, unlinked-call, blanks-call, each-alter, at-or-other, waits-state, waits-call, waits-alike, not-running, not-ready, not-asleep, not-waiting, state-used, waiting-state}
 use Rattle.places.specs.Machines.{recordWith, record-with}
 
 -- asleep is stored anew: one more, or one less, is owed.
@@ -51,11 +52,13 @@ module _ {z : Sizes} {m : Memory} {n : ℕ} (p : Placed z m n) (v k : ℕ) where
         locks = p .locks;
         waiting = λ q. all-map (λ j h. record { state = h .state; kind = h .kind; object = h .object }) (waiterList z m q) (p .waiting q);
         asleep = omega (arith, e, p .asleep, ap asleep asleep-machine);
+        unlinked = p .unlinked;
+        blanks = p .blanks;
       }
 
 pub asleep-nowhere : {z : Sizes} {m : Memory} {i : ℕ} (v : ℕ) → Nowhere z m i → Nowhere z (asleepMem m v) i
 unfolding runList waiterList waitsOn
-asleep-nowhere v w = record { used = w .used; up = w .up; run = w .run; rendez = w .rendez; locks = w .locks; waitr = w .waitr }
+asleep-nowhere v w = record { used = w .used; up = w .up; run = w .run; rendez = w .rendez; locks = w .locks; waitr = w .waitr; next = w .next }
 
 -- Nobody runs.
 abbrev pub stopMem : Memory → Memory
@@ -78,6 +81,8 @@ module _ {z : Sizes} {m : Memory} {n : ℕ} (p : Placed z m n) where
         locks = p .locks;
         waiting = λ q. all-map (λ j h. record { state = h .state; kind = h .kind; object = h .object }) (waiterList z m q) (p .waiting q);
         asleep = p .asleep ∙ ap (λ (k : Machine). n + asleep k) (sym stop-machine);
+        unlinked = p .unlinked;
+        blanks = p .blanks;
       }
 
   -- Whoever ran is nowhere then.
@@ -92,6 +97,7 @@ module _ {z : Sizes} {m : Memory} {n : ℕ} (p : Placed z m n) where
         rendez = not-asleep p i 1 e (λ d. omega (arith, d));
         locks = not-waiting p i 1 e (λ d. omega (arith, d));
         waitr = waits-state m i (λ d. omega (arith, d, e));
+        next = no-link (λ d. omega (arith, d, e)) (λ d. omega (arith, d, e)) (p .unlinked i);
       }
 
 -- A state stored at i, for all who are elsewhere: what the steps into a place share.
@@ -162,6 +168,8 @@ module _ {z : Sizes} {m : Memory} {n i : ℕ} (p : Placed z m n) (w : Nowhere z 
         locks = p .locks;
         waiting = λ q. all-map (λ j h. record { state = h .state; kind = h .kind; object = h .object }) (waiterList z m q) (stated-waits p w 1 q);
         asleep = p .asleep ∙ ap (λ (k : Machine). n + asleep k) (sym run-machine);
+        unlinked = unlinked-state i 1 (w .next) (p .unlinked);
+        blanks = p .blanks;
       }
 
 -- The call of i is stored anew.
@@ -232,9 +240,9 @@ module _ {z : Sizes} {m : Memory} {n i : ℕ} (b : InBounds z m) (p : Placed z m
       in
       ap asleep call-machine ∙ omega (arith, s)
 
-  pub call-placed : Placed z (callMem m i k o c) n
+  pub call-placed : Blank k o c → Placed z (callMem m i k o c) n
   unfolding runList waiterList
-  call-placed =
+  call-placed f =
       record {
         free = p .free;
         used = p .used;
@@ -244,6 +252,8 @@ module _ {z : Sizes} {m : Memory} {n i : ℕ} (b : InBounds z m) (p : Placed z m
         locks = p .locks;
         waiting = λ q. all-both (λ j ne h. waits q j ne h) (waiterList z m q) (w .locks q) (p .waiting q);
         asleep = p .asleep ∙ omega (arith, call-asleep);
+        unlinked = unlinked-call i k (w .next) (p .unlinked);
+        blanks = blanks-call i k o c f (p .blanks);
       }
     where
       sleeps : (r j : ℕ) → m fields.sleeperOf r ≡ suc j → SleepsHere (callMem m i k o c) r j
@@ -266,4 +276,4 @@ module _ {z : Sizes} {m : Memory} {n i : ℕ} (b : InBounds z m) (p : Placed z m
 
   pub call-nowhere : Nowhere z (callMem m i k o c) i
   unfolding runList waiterList
-  call-nowhere = record { used = w .used; up = w .up; run = w .run; rendez = w .rendez; locks = w .locks; waitr = call-waits i ∙ w .waitr }
+  call-nowhere = record { used = w .used; up = w .up; run = w .run; rendez = w .rendez; locks = w .locks; waitr = call-waits i ∙ w .waitr; next = w .next }

@@ -17,13 +17,14 @@ use Rattle.state.specs.Fields as fields
 use Rattle.state.specs.Abs.{table, linkTo, runList, waiterList, timerList, exitList, waitsOn, exitAt, processAt, machineOf}
 use Rattle.state.specs.Tables.{table-length}
 use Rattle.state.specs.WellFormed.{Used}
+use Rattle.state.specs.Blanks.{no-wait}
 use Rattle.rules.specs.Facts.{RunOk, SleepsHere, WaitsHere}
 use Rattle.exact.specs.Bounds.{InBounds, inside}
 use Rattle.exact.specs.Parts.{sleeper-of}
 use Rattle.queue.specs.Other.{absent-by}
 use Rattle.holds.specs.Holds.{Placed}
 use Rattle.holds.specs.Parts.{table-same, table-set, asleep-sleeper}
-use Rattle.places.specs.Nowhere.{Nowhere, each-alter, at-or-other, waits-call, waits-alike, not-running, not-ready, state-used, waiting-state}
+use Rattle.places.specs.Nowhere.{Nowhere, unlinked-state, each-alter, at-or-other, waits-call, waits-alike, not-running, not-ready, state-used, waiting-state}
 use Rattle.places.specs.Machines.{recordWith}
 
 -- The call of i is a `sleep` or a `tsleep` on Rendez r.
@@ -96,6 +97,8 @@ module _ {z : Sizes} {m : Memory} {n i r : ℕ} (b : InBounds z m) (p : Placed z
         locks = p .locks;
         waiting = λ q. all-both (λ j ne h. waits j q ne h) (waiterList z m q) (w .locks q) (p .waiting q);
         asleep = p .asleep ∙ omega (arith, sleep-asleep);
+        unlinked = unlinked-state i 3 (w .next) (p .unlinked);
+        blanks = p .blanks;
       }
     where
       here : (j : ℕ) → alter (m fields.sleeperOf) r (suc i) r ≡ suc j → SleepsHere (sleepMem m i r) r j
@@ -176,6 +179,8 @@ module _ {z : Sizes} {m : Memory} {n i r : ℕ} (b : InBounds z m) (p : Placed z
         locks = p .locks;
         waiting = λ q. all-map (λ j h. record { state = h .state; kind = h .kind; object = h .object }) (waiterList z m q) (p .waiting q);
         asleep = p .asleep ∙ omega (arith, woken-asleep);
+        unlinked = p .unlinked;
+        blanks = p .blanks;
       }
 
   -- Whoever is taken off is nowhere then.
@@ -193,4 +198,5 @@ module _ {z : Sizes} {m : Memory} {n i r : ℕ} (b : InBounds z m) (p : Placed z
             absent-by (m fields.resumeKind) (m fields.resumeKind i) 3 (not-qlock (m fields.resumeKind i) (woken-call .kind)) i refl (waiterList z m q)
             (all-map (λ j h. h .kind) (waiterList z m q) (p .waiting q));
         waitr = waits-call (wokenMem m r) i (not-wait (m fields.resumeKind i) (woken-call .kind));
+        next = no-wait (woken-call .state) (not-qlock (m fields.resumeKind i) (woken-call .kind)) (p .unlinked i);
       }

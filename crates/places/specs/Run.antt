@@ -15,11 +15,12 @@ use Rattle.chain.specs.Links.{walk, Queue, pushLinks, pushFirst, popLast, queue
 use Rattle.state.specs.Fields as fields
 use Rattle.state.specs.Abs.{table, linkTo, isSet, runList, waiterList, timerList, exitList, waitsOn, exitAt, processAt, machineOf}
 use Rattle.state.specs.WellFormed.{Used}
+use Rattle.state.specs.Blanks.{is-linked-ready}
 use Rattle.rules.specs.Facts.{RunOk, SleepsHere, WaitsHere}
 use Rattle.queue.specs.Other.{Apart, LinkAbsent, apart-by, final-absent, after-push, queue-alter}
 use Rattle.holds.specs.Holds.{Placed}
 use Rattle.holds.specs.Parts.{table-same}
-use Rattle.places.specs.Nowhere.{Nowhere, each-alter, at-or-other, waits-state, waits-alike, waiting-state, not-running, not-asleep, not-waiting, state-used}
+use Rattle.places.specs.Nowhere.{Nowhere, unlinked-state, unlinked-pop, unlinked-push, each-alter, at-or-other, waits-state, waits-alike, waiting-state, not-running, not-asleep, not-waiting, state-used}
 use Rattle.places.specs.Machines.{recordWith, record-with, locks-same}
 
 -- The memory once i has state 2 and stands last in the run queue.
@@ -109,6 +110,13 @@ module _ {z : Sizes} {m : Memory} {n i : ℕ} (p : Placed z m n) (w : Nowhere z 
             subst (λ (xs : List ℕ). Each (WaitsHere (readyMem m i) q) xs) (sym (ready-waiters q))
             (all-both (λ j ne h. waits j q ne h) (waiterList z m q) (w .locks q) (p .waiting q));
         asleep = p .asleep ∙ ap (λ (k : Machine). n + asleep k) (sym ready-machine);
+        unlinked =
+            unlinked-push (m fields.runTail 0) i (runList z m) (p .run .queue .ends)
+            (all-map (λ j e. is-linked-ready (alter (m fields.stateOf) i 2 j) (m fields.resumeKind j) e) (runList z m)
+            (each-alter (m fields.stateOf) i 2 2 (runList z m) (w .run) (p .run .ready)))
+            (is-linked-ready (alter (m fields.stateOf) i 2 i) (m fields.resumeKind i) (alter-same (m fields.stateOf) i 2))
+            (unlinked-state i 2 (w .next) (p .unlinked));
+        blanks = p .blanks;
       }
     where
       dead : (j : ℕ) → m fields.pid j ≡ 0 → i ≡ j → ⊥
@@ -194,6 +202,8 @@ module _ {z : Sizes} {m : Memory} {n i : ℕ} (p : Placed z m n) (xs : List ℕ)
             subst (λ (ys : List ℕ). Each (WaitsHere (nextMem m i) q) ys) (sym (next-waiters q))
             (all-map (λ j h. record { state = h .state; kind = h .kind; object = h .object }) (waiterList z m q) (p .waiting q));
         asleep = p .asleep ∙ ap (λ (k : Machine). n + asleep k) (sym next-machine);
+        unlinked = unlinked-pop i (p .unlinked);
+        blanks = p .blanks;
       }
 
   -- Whoever is taken off is nowhere then.
@@ -208,4 +218,5 @@ module _ {z : Sizes} {m : Memory} {n i : ℕ} (p : Placed z m n) (xs : List ℕ)
         rendez = not-asleep p i 2 state-before (λ e. omega (arith, e));
         locks = λ q. subst (λ (ys : List ℕ). Absent i ys) (sym (next-waiters q)) (absent-lock q);
         waitr = waits-state (nextMem m i) i (λ e. omega (arith, e, state-before));
+        next = alter-same (m fields.next) i 0;
       }

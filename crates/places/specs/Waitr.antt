@@ -19,13 +19,14 @@ use Rattle.state.specs.Fields as fields
 use Rattle.state.specs.Abs.{table, linkTo, runList, waiterList, timerList, exitList, waitsOn, exitAt, processAt, machineOf}
 use Rattle.state.specs.Tables.{table-length}
 use Rattle.state.specs.WellFormed.{Used}
+use Rattle.state.specs.Blanks.{no-wait}
 use Rattle.rules.specs.Facts.{RunOk, SleepsHere, WaitsHere}
 use Rattle.exact.specs.Bounds.{InBounds, inside}
 use Rattle.exact.specs.Parts.{usedAt, used-at, used-of}
 use Rattle.queue.specs.Other.{absent-by}
 use Rattle.holds.specs.Holds.{Placed}
 use Rattle.holds.specs.Parts.{table-set, asleep-process}
-use Rattle.places.specs.Nowhere.{Nowhere, each-alter, at-or-other, waits-state, waits-alike, not-running, not-ready, state-used}
+use Rattle.places.specs.Nowhere.{Nowhere, unlinked-state, each-alter, at-or-other, waits-state, waits-alike, not-running, not-ready, state-used}
 use Rattle.places.specs.Own.{stated-free, stated-used, stated-running, stated-sleeps, stated-waits}
 
 -- The state of i is stored anew.
@@ -114,6 +115,8 @@ module _ {z : Sizes} {m : Memory} {n i : ℕ} (b : InBounds z m) (p : Placed z m
         locks = p .locks;
         waiting = stated-waits p w 3;
         asleep = p .asleep ∙ omega (arith, state-asleep b (w .used) 3 true wait-true, ap bit (w .waitr));
+        unlinked = unlinked-state i 3 (w .next) (p .unlinked);
+        blanks = p .blanks;
       }
 
 -- What waiting on the own waitr says of state and call.
@@ -138,6 +141,9 @@ module _ {z : Sizes} {m : Memory} {n : ℕ} (b : InBounds z m) (p : Placed z m n
 
   own-call : m fields.resumeKind i ≡ 4
   own-call = waits-both m i h .1
+
+  own-next : m fields.next i ≡ 0
+  own-next = no-wait own-state (λ e. omega (arith, e, own-call)) (p .unlinked i)
 
   own-used : Used m i
   own-used = state-used p i (omega (arith, own-state))
@@ -165,7 +171,7 @@ module _ {z : Sizes} {m : Memory} {n : ℕ} (b : InBounds z m) (p : Placed z m n
 
   pub unwait-nowhere : Nowhere z (stateMem m i 2) i
   unfolding runList waiterList
-  unwait-nowhere = record { used = own-used; up = not-up; run = not-run; rendez = not-on; locks = not-in; waitr = unwait-false }
+  unwait-nowhere = record { used = own-used; up = not-up; run = not-run; rendez = not-on; locks = not-in; waitr = unwait-false; next = own-next }
 
   pub unwait-placed : Placed z (stateMem m i 2) (suc n)
   unfolding runList waiterList
@@ -186,4 +192,6 @@ module _ {z : Sizes} {m : Memory} {n : ℕ} (b : InBounds z m) (p : Placed z m n
             all-both (λ j ne s. record { state = alter-other (m fields.stateOf) i 2 j ne ∙ s .state; kind = s .kind; object = s .object })
             (waiterList z m q) (not-in q) (p .waiting q);
         asleep = p .asleep ∙ omega (arith, state-asleep b own-used 2 false unwait-false, ap bit h);
+        unlinked = unlinked-state i 2 own-next (p .unlinked);
+        blanks = p .blanks;
       }

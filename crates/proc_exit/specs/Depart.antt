@@ -25,7 +25,7 @@ use Rattle.exact.specs.Parts.{used-of, pid-of}
 use Rattle.holds.specs.Holds.{Holds}
 use Rattle.holds.specs.Whole.{holds-bounds}
 use Rattle.holds.specs.Did.{machineIn}
-use Rattle.holds.specs.Touched.{Spares, spares-fewer}
+use Rattle.holds.specs.Touched.{Spares, spares-gone}
 use Rattle.ages.specs.Found.{found-named}
 use Rattle.ages.specs.Parent.{ParentFound}
 use Rattle.outcome.specs.Stepped.{Well}
@@ -162,5 +162,5 @@ module _ {z : Sizes} {s : List ℕ} {i link : ℕ} (a : DepartAsks z s i link) w
                 (ap (λ (x : Process). x .name) (used-of (holds-bounds (a .well .holds)) i used) ∙ sym (o .text))
                 here
                 ∙ ap (λ (x : Machine). tellParent (process M i) status x .machine) (d .machine);
-            spares = spares-fewer (d .spares) (d .fewer) (t .spares);
+            spares = spares-gone (d .spares) (d .smaller) (t .spares) (t .kin);
           }

@@ -15,8 +15,8 @@ use Rattle.state.specs.WellFormed.{Used}
 use Rattle.state.specs.declared.Sizes.{Sizes}
 use Rattle.holds.specs.Holds.{Holds}
 use Rattle.holds.specs.Did.{machineIn}
-use Rattle.holds.specs.Use.{Fewer, fewer-same, fewer-join, same-use}
-use Rattle.holds.specs.Touched.{Touched, Spares, spares-after, spares-fewer, spares-did, touched-did}
+use Rattle.holds.specs.Use.{kin-at, fewer-same, Smaller, smaller-join, same-use}
+use Rattle.holds.specs.Touched.{Touched, Spares, settled-kin, spares-after, spares-fewer, spares-did, touched-did}
 use Rattle.places.specs.Nowhere.{state-used}
 use Rattle.dat.specs.Own.{StopAsks, Stopped}
 use Rattle.waitq.specs.Clear.{ClearAsks, ClearDone}
@@ -34,7 +34,7 @@ pub record Left (z : Sizes) (s s′ : List ℕ) (i : ℕ) : Type 0 where
   pub machine : machineIn z s′ ≡ without i (machineIn z s)
   pub found : (q : ℕ) → (memIn z s fields.pid i ≡ q → ⊥) → found q (machineIn z s′) ≡ found q (machineIn z s)
   pub spares : Spares z s s′
-  pub fewer : Fewer z (memIn z s) (memIn z s′)
+  pub smaller : Smaller z (memIn z s) (memIn z s′)
 
 -- A link to i is i's.
 link-is : (l i : ℕ) → linkTo l ≡ some i → l ≡ suc i
@@ -77,7 +77,7 @@ module _ {z : Sizes} {s : List ℕ} {i : ℕ} (a : LeaveAsks z s i) where
       -- What the code shows.
       pub left : {s₃ : List ℕ} → Released z s₂ s₃ i → Left z s s₃ i
       left d =
-          let same : Touched z s₁ s₂ = touched-did (t .did) (same-use refl refl refl refl) in
+          let same : Touched z s₁ s₂ = touched-did (t .did) (same-use refl refl refl refl refl refl) in
           record {
             holds = d .did .holds 0 (t .did .holds 0 (c .did .holds 0 (a .holds)));
             machine =
@@ -88,6 +88,6 @@ module _ {z : Sizes} {s : List ℕ} {i : ℕ} (a : LeaveAsks z s i) where
                 d .found q (λ e. ne (sym same-pid ∙ e))
                 ∙ ap (found q) then
                 ∙ found-still (machineIn z s) i q;
-            spares = spares-fewer (spares-did (c .did)) (c .fewer) (spares-after same (spares-did (d .did)));
-            fewer = fewer-join (c .fewer) (fewer-join (fewer-same (same .same)) (d .fewer));
+            spares = spares-fewer (spares-did (c .did) (settled-kin (kin-at (sym (c .did .memory)) (c .fewer .kin)))) (c .fewer) (spares-after same (spares-did (d .did) (record { stays = λ j u. refl })));
+            smaller = smaller-join (c .fewer) (smaller-join (fewer-same (same .same)) (d .smaller));
           }

@@ -24,12 +24,15 @@ use Rattle.exact.specs.Parts.{used-of}
 use Rattle.holds.specs.Holds.{Holds}
 use Rattle.holds.specs.Whole.{holds-bounds}
 use Rattle.holds.specs.Did.{machineIn}
-use Rattle.holds.specs.Use.{same-use}
-use Rattle.holds.specs.Touched.{Spares, spares-after, spares-before, spares-did, touched-did}
+use Rattle.holds.specs.Use.{SameKin, kin-at, kin-join, same-use}
+use Rattle.holds.specs.Touched.{Spares, settled-kin, spares-after, spares-before, spares-did, touched-did}
 use Rattle.free.specs.Highest.{highestFree}
 use Rattle.free.specs.FreeCell.{free-cell}
 use Rattle.dat.specs.Waitr.{OwnAsks, WokeOwn}
-use Rattle.waitq.specs.Added.{AddAsks, AddDone}
+use Rattle.machine.specs.Message.{message}
+use Rattle.waitq.specs.Add.{addMem}
+use Rattle.waitq.specs.Added.{cellFor, AddAsks, AddDone}
+use Rattle.waitq.specs.InUse.{add-kin}
 use Rattle.records.specs.Nchild.{NchildSet}
 use Rattle.proc_exit.specs.Told.{newExit, withExit, fewer, queued, told-room, told-full, queue-again}
 
@@ -38,17 +41,22 @@ pub record QueuedExit (z : Sizes) (s s′ : List ℕ) (j pid : ℕ) (name status
   pub holds : (n : ℕ) → Holds z s n → Holds z s′ n
   pub machine : machineIn z s′ ≡ wakeWaitr j (withExit (machineIn z s) j pid name status) .machine
   pub spares : Spares z s s′
+  pub kin : SameKin (memIn z s) (memIn z s′)
 
 module _ {z : Sizes} {s s₁ : List ℕ} {j pid : ℕ} {name status : List ℕ} (a : AddAsks z s j) (q : AddDone z s s₁ j pid name status) where
   pub queue-wake : OwnAsks z s₁ j
   queue-wake = record { owed = a .owed; holds = q .did .holds (a .owed) (a .holds); index = inside (holds-bounds (a .holds)) fields.pid j (a .used) }
+
+  added-kin : SameKin (memIn z s) (addMem (z .cells) (memIn z s) j (cellFor z s) pid (message name pid status))
+  added-kin = add-kin (z .cells) (memIn z s) j (cellFor z s) pid (message name pid status)
 
   pub queued-exit : {s₂ : List ℕ} {t : Bool} → WokeOwn z s₁ s₂ j t → QueuedExit z s s₂ j pid name status
   queued-exit w =
       record {
         holds = λ n h. w .holds n (q .did .holds n h);
         machine = w .machine ∙ ap (λ (y : Machine). wakeWaitr j y .machine) (q .did .machine);
-        spares = spares-before (spares-did (q .did)) (w .touched);
+        spares = spares-before (spares-did (q .did) (settled-kin added-kin)) (w .touched);
+        kin = kin-join (kin-at (q .did .memory) added-kin) (w .touched .same .kin);
       }
 
 -- Record j has a living process with a child, and a cell is free where it has room for an exit.
@@ -65,6 +73,7 @@ pub record ToldParent (z : Sizes) (s s′ : List ℕ) (j pid : ℕ) (name status
       : (child : Process) → child .pid ≡ pid → child .name ≡ name → found (child .parent) (machineIn z s) ≡ some j
       → machineIn z s′ ≡ tellParent child status (machineIn z s) .machine
   pub spares : Spares z s s′
+  pub kin : SameKin (memIn z s) (memIn z s′)
 
 -- How many exits a living process has.
 pub exits-number : {z : Sizes} {s : List ℕ} {n : ℕ} → Holds z s n → (j : ℕ) → Used (memIn z s) j → length (process (machineIn z s) j .exits) ≡ memIn z s fields.nexits j
@@ -125,7 +134,8 @@ module _ {z : Sizes} {s : List ℕ} {j : ℕ} (a : TellAsks z s j) where
           holds = h₁;
           machine = λ child f g q.
               then ∙ sym (told-full (machineIn z s) child status j q (le-ltb (length (process (machineIn z s) j .exits)) 128 (omega (arith, number, l))));
-          spares = spares-did (p .did);
+          spares = spares-did (p .did) (settled-kin (record { pids = refl; parents = refl }));
+          kin = kin-at (p .did .memory) (record { pids = refl; parents = refl });
         }
 
     pub tell-add : k < 128 → AddAsks z s₁ j
@@ -151,5 +161,6 @@ module _ {z : Sizes} {s : List ℕ} {j : ℕ} (a : TellAsks z s j) where
               ∙ ap (λ (y : Machine). wakeWaitr j y .machine) (added pid name status)
               ∙ ap₂ (λ (v : ℕ) (w : List ℕ). wakeWaitr j (withProcess j (queued (machineIn z s) j v w status) (machineIn z s)) .machine) (sym f) (sym g)
               ∙ sym (told-room (machineIn z s) child status j x (lt-ltb (length (process (machineIn z s) j .exits)) 128 (omega (arith, number, l))));
-          spares = spares-after (touched-did (p .did) (same-use refl refl refl refl)) (q .spares);
+          spares = spares-after (touched-did (p .did) (same-use refl refl refl refl refl refl)) (q .spares);
+          kin = kin-join (kin-at (p .did .memory) (record { pids = refl; parents = refl })) (q .kin);
         }

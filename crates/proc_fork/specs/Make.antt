@@ -61,7 +61,7 @@ module _ {z : Sizes} {s : List ℕ} {M : ℕ} (a : SpendAsks z s) where
         holds = t .did .holds 0 (a .holds);
         bytes = rw (eq-eqb M 3 e) (t .did .bytes);
         machine = rw (eq-eqb M 3 e) (t .did .machine);
-        touched = touched-did (t .did) (same-use refl refl refl refl);
+        touched = touched-did (t .did) (same-use refl refl refl refl refl refl);
       }
 
   pub spend-none : (M ≡ 3 → ⊥) → Spent z s s M

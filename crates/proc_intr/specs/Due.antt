@@ -17,7 +17,7 @@ use Rattle.exact.specs.Parts.{pid-of}
 use Rattle.holds.specs.Holds.{Holds}
 use Rattle.holds.specs.Whole.{holds-bounds}
 use Rattle.holds.specs.Did.{machineIn}
-use Rattle.holds.specs.Use.{Fewer}
+use Rattle.holds.specs.Use.{kin-join, Fewer}
 use Rattle.holds.specs.Touched.{Spares, spares-fewer}
 use Rattle.timer.specs.Due.{Later, HeadDue, PoppedDue}
 use Rattle.outcome.specs.Stepped.{Well}
@@ -119,5 +119,5 @@ due-fired {z} {s} {s₁} {s₂} {reading} {l} a p ne f =
       later = λ x. absurd (not-both x);
       fires = λ _. o;
       spares = spares-fewer (p .spares) (p .fewer) (f .spares);
-      fewer = record { fewer = λ g i x. f .uses (memIn z s) (p .on (l - 1) (link-suc l ne)) .between g i x (p .fewer .fewer g i x) };
+      fewer = record { fewer = λ g i x. f .uses (memIn z s) (p .on (l - 1) (link-suc l ne)) .between g i x (p .fewer .fewer g i x); kin = kin-join (p .fewer .kin) (f .kin) };
     }

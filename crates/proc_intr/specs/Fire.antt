@@ -11,7 +11,7 @@ use Rattle.state.specs.Places.{memIn}
 use Rattle.state.specs.declared.Sizes.{Sizes}
 use Rattle.holds.specs.Holds.{Holds}
 use Rattle.holds.specs.Did.{machineIn}
-use Rattle.holds.specs.Use.{Between, fewer-same}
+use Rattle.holds.specs.Use.{SameKin, kin-join, Between, fewer-same}
 use Rattle.holds.specs.Touched.{Spares, spares-after}
 use Rattle.timer.specs.Readd.{ReaddAsks, Readded}
 use Rattle.proc_intr.specs.Callback.{CallbackAsks, CalledBack}
@@ -31,6 +31,7 @@ pub record Fired (z : Sizes) (s s′ : List ℕ) (t : ℕ) : Type 0 where
   pub holds : (n : ℕ) → Holds z s n → Holds z s′ n
   pub machine : machineIn z s′ ≡ readd (timerAt (memIn z s) t) (callback t (machineIn z s) .machine)
   pub spares : Spares z s s′
+  pub kin : SameKin (memIn z s) (memIn z s′)
   -- no more is used than before, and in a memory in which it is queued
   pub uses : (k : Memory) → 0 < k fields.isQueued t → Between z k (memIn z s′) (memIn z s)
 
@@ -52,5 +53,6 @@ fired {z} {s} {s₁} {s₂} {t} a c r =
           ∙ ap (readd (timerAt (memIn z s₁) t)) (c .did .machine)
           ∙ ap (λ (k : ℕ → ℕ). readd (record { timer = t; deadline = k t }) (callback t (machineIn z s) .machine)) (c .did .deadlines);
       spares = spares-after (c .did .touched) (r .spares);
+      kin = kin-join (c .did .touched .same .kin) (r .kin);
       uses = λ k h. record { between = λ f i x y. r .uses k h .between f i x (fewer-same (c .did .touched .same) .fewer f i y) };
     }

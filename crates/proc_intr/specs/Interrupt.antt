@@ -12,7 +12,7 @@ use Rattle.machine.specs.TimersLaws.{NoneDue}
 use Rattle.state.specs.Places.{memIn}
 use Rattle.state.specs.declared.Sizes.{Sizes}
 use Rattle.holds.specs.Did.{machineIn}
-use Rattle.holds.specs.Use.{Fewer, fewer-join}
+use Rattle.holds.specs.Use.{kin-same, Fewer, fewer-join}
 use Rattle.holds.specs.Touched.{Spares, spares-none, spares-fewer}
 use Rattle.outcome.specs.Stepped.{Well}
 use Rattle.proc_intr.specs.OneFired.{OneFired, one-less}
@@ -56,7 +56,7 @@ int-start {z} {s} {reading} a =
       goes = refl;
       room = omega (arith, owed-room a);
       spares = spares-none;
-      fewer = record { fewer = λ f i e. e };
+      fewer = record { fewer = λ f i e. e; kin = kin-same refl };
     }
 
 -- The definition, where nothing is due and where the head is.

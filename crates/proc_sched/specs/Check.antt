@@ -84,7 +84,7 @@ out-small {z} {s} {i} l = omega (arith, limbo-low l, l .holds .sizes .processes 
 -- In limbo still.
 nowhere-kept : (z : Sizes) (m : Memory) (i t : ℕ) → Nowhere (sizesIn z) m i → Nowhere (sizesIn z) (delMem z m t) i
 unfolding runList waiterList waitsOn
-nowhere-kept z m i t w = record { used = w .used; up = w .up; run = w .run; rendez = w .rendez; locks = w .locks; waitr = w .waitr }
+nowhere-kept z m i t w = record { used = w .used; up = w .up; run = w .run; rendez = w .rendez; locks = w .locks; waitr = w .waitr; next = w .next }
 
 pub out-limbo : {z : Sizes} {s s₁ : List ℕ} {i t : ℕ} → Limbo z s i → Deleted z s s₁ t → Limbo z s₁ i
 out-limbo {z} {s} {s₁} {i} {t} l d =

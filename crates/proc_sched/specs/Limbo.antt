@@ -23,7 +23,7 @@ use Rattle.holds.specs.Holds.{Holds}
 use Rattle.holds.specs.Whole.{holds-bounds}
 use Rattle.holds.specs.Did.{machineIn}
 use Rattle.holds.specs.Use.{same-use, Fewer}
-use Rattle.holds.specs.Touched.{Touched, touched-join, touched-did, Spares, spares-did, spares-fewer}
+use Rattle.holds.specs.Touched.{Touched, touched-join, touched-did, Spares, settled-kin, spares-did, spares-fewer}
 use Rattle.places.specs.Nowhere.{Nowhere}
 use Rattle.places.specs.Rendez.{CallsRendez}
 use Rattle.dat.specs.Asleep.{asleepIn}
@@ -59,7 +59,7 @@ dispatched {i = i} l c r =
     record {
       holds = r .did .holds 0 (c .did .holds 0 (l .holds));
       machine = r .did .machine ∙ ap (withUp (some i)) (c .did .machine);
-      touched = touched-join (touched-did (c .did) (same-use refl refl refl refl)) (touched-did (r .did) (same-use refl refl refl refl));
+      touched = touched-join (touched-did (c .did) (same-use refl refl refl refl refl refl)) (touched-did (r .did) (same-use refl refl refl refl refl refl));
     }
 
 pub limbo-low : {z : Sizes} {s : List ℕ} {i : ℕ} → Limbo z s i → i < z .processes
@@ -177,6 +177,6 @@ slept-again {z} {s} {s₁} {i} {r} a p =
             told = refl;
             long = refl;
             machine = p .did .machine ∙ sym (sleeps-same (machineIn z s) i r (up-none (a .limbo)));
-            spares = spares-did (p .did);
+            spares = spares-did (p .did) (settled-kin (record { pids = refl; parents = refl }));
           };
     }

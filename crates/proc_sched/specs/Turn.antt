@@ -75,7 +75,7 @@ ticks-room w = omega (arith, w .good .ticks, w .good .inRange .lastNow)
 -- Who is in no place is in none with another quantum.
 nowhere-kept : (z : Sizes) (m : Memory) (i v : ℕ) → Nowhere (sizesIn z) m i → Nowhere (sizesIn z) (upd m fields.quantumEnd i v) i
 unfolding runList waiterList waitsOn
-nowhere-kept z m i v w = record { used = w .used; up = w .up; run = w .run; rendez = w .rendez; locks = w .locks; waitr = w .waitr }
+nowhere-kept z m i v w = record { used = w .used; up = w .up; run = w .run; rendez = w .rendez; locks = w .locks; waitr = w .waitr; next = w .next }
 
 module _ {z : Sizes} {s s₁ : List ℕ} {i l : ℕ} {c : Resume} {b : List ℕ} (a : TurnAsks z s i c b) (t : NextTaken z s s₁ l) where
   -- i was taken off
@@ -164,7 +164,7 @@ module _ {z : Sizes} {s s₁ : List ℕ} {i l : ℕ} {c : Resume} {b : List ℕ}
 
     -- it was taken off and has its quantum
     begun : Touched z s s₂
-    begun = touched-join (touched-did (one .did) (same-use refl refl refl refl)) (q .touched)
+    begun = touched-join (touched-did (one .did) (same-use refl refl refl refl refl refl)) (q .touched)
 
     pub turned : {s₃ b₁ : List ℕ} {r : code.Reply} → WentOn z s₂ s₃ i c b b₁ r → Turned z s s₃ b b₁ r
     turned {s₃} {b₁} {r} w =

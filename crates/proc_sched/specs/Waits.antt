@@ -22,7 +22,7 @@ use Rattle.state.specs.declared.Sizes.{Sizes}
 use Rattle.exact.specs.Parts.{used-of, pid-of}
 use Rattle.holds.specs.Whole.{holds-bounds}
 use Rattle.holds.specs.Did.{machineIn}
-use Rattle.holds.specs.Touched.{spares-before, spares-did}
+use Rattle.holds.specs.Touched.{settled-kin, spares-before, spares-did}
 use Rattle.places.specs.Nowhere.{Nowhere}
 use Rattle.dat.specs.Waitr.{WaitAsks, Waited}
 use Rattle.waitq.specs.Push.{headStores}
@@ -60,7 +60,7 @@ finish-low f = limbo-low (f .limbo)
 
 nowhere-kept : (z : Sizes) (m : Memory) (n i c : ℕ) → Nowhere (sizesIn z) m i → Nowhere (sizesIn z) (takeMem n m i c) i
 unfolding runList waiterList waitsOn popStores unlinkStores headStores
-nowhere-kept z m n i c w = record { used = w .used; up = w .up; run = w .run; rendez = w .rendez; locks = w .locks; waitr = w .waitr }
+nowhere-kept z m n i c w = record { used = w .used; up = w .up; run = w .run; rendez = w .rendez; locks = w .locks; waitr = w .waitr; next = w .next }
 
 pub finish-limbo : {z : Sizes} {s s₁ : List ℕ} {i : ℕ} {b b₁ : List ℕ} {g : Gone} → FinishAsks z s i b → TookChild z s s₁ i b b₁ g → Limbo z s₁ i
 unfolding popStores unlinkStores headStores
@@ -188,7 +188,7 @@ wait-slept {z} {s} {s₁} {i} {n} {b} a e d w =
             told = ap told (sym (q .0));
             long = refl;
             machine = w .did .machine ∙ sym (again (machineIn z s) i (up-none (a .limbo)) (waiting a)) ∙ sym (q .1);
-            spares = spares-did (w .did);
+            spares = spares-did (w .did) (settled-kin (record { pids = refl; parents = refl }));
           };
       buffer = refl;
     }

@@ -115,7 +115,7 @@ queued {z} {s} {s₁} {s₂} {s₃} {i} {q} a t d p =
           (d .did .machine ∙ ap (λ (x : Machine). withProcess i (withResume (machine.inQlock q) (process x i)) x) (t .did .machine))
           (a .held);
       touched =
-          touched-join (touched-join (touched-did (t .did) (same-use refl refl refl refl)) (touched-did (d .did) (same-use refl refl refl refl))) (touched-did (p .did) (same-use refl refl refl refl));
+          touched-join (touched-join (touched-did (t .did) (same-use refl refl refl refl refl refl)) (touched-did (d .did) (same-use refl refl refl refl refl refl))) (touched-did (p .did) (same-use refl refl refl refl refl refl));
     }
 
 -- qlock
@@ -175,7 +175,7 @@ qlock-done {z} {s} {s₁} {q} {k} {t} a w e =
     record {
       stepped =
           stepped-done (qlock-number k a ∙ rw (h, off k, off (isNone (machineIn z s .up)))) (w .yes e .holds 0 (a .well .holds))
-          (touched-did (w .yes e) (same-use refl refl refl refl) .spares) (sym (p .0)) (ap told (sym (p .0)))
+          (touched-did (w .yes e) (same-use refl refl refl refl refl refl) .spares) (sym (p .0)) (ap told (sym (p .0)))
           (w .yes e .machine ∙ sym (p .1));
     }
 

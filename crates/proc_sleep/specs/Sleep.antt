@@ -120,7 +120,7 @@ fell-asleep {z} {s} {s₁} {s₂} {s₃} {i} {r} {c} a t d p =
           ∙ ap (withSleeper r (some i)) (d .did .machine ∙ ap (λ (x : Machine). withProcess i (withResume (meaning c) (process x i)) x) (t .did .machine))
           ∙ sleep-on (machineIn z s) i r (meaning c);
       touched =
-          touched-join (touched-join (touched-did (t .did) (same-use refl refl refl refl)) (touched-did (d .did) (same-use refl refl refl refl))) (touched-did (p .did) (same-use refl refl refl refl));
+          touched-join (touched-join (touched-did (t .did) (same-use refl refl refl refl refl refl)) (touched-did (d .did) (same-use refl refl refl refl refl refl))) (touched-did (p .did) (same-use refl refl refl refl refl refl));
     }
 
 -- sleep

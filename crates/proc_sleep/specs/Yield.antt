@@ -72,7 +72,7 @@ yield-done {z} {s} {s₁} {s₂} {k} {l} w f e ne t r =
     record {
       stepped =
           stepped-done (refusal-yield (machineIn z s) k ∙ rw (f, u)) (r .did .holds 0 (t .did .holds 0 (w .holds)))
-          (touched-join (touched-did (t .did) (same-use refl refl refl refl)) (touched-did (r .did) (same-use refl refl refl refl)) .spares) refl refl
+          (touched-join (touched-did (t .did) (same-use refl refl refl refl refl refl)) (touched-did (r .did) (same-use refl refl refl refl refl refl)) .spares) refl refl
           (r .did .machine
           ∙ ap (ready (l - 1)) (t .did .machine)
           ∙ ap (λ (i : ℕ). ready i (withUp none (machineIn z s))) (sym (current-is (machineIn z s) (l - 1) u)));

@@ -62,5 +62,5 @@ module _ {z : Sizes} {s s₁ : List ℕ} {p : Proc} {r : ℕ} (a : BeginAsks z s
             d .did .machine
             ∙ ap (ready (r - 1)) (made-one .did .machine)
             ∙ born-made (machineIn z s) (r - 1) p (made-one .found);
-        spares = spares-before (spares-did (made-one .did)) (touched-did (d .did) (same-use refl refl refl refl));
+        spares = spares-before (spares-did (made-one .did) (made-one .settled)) (touched-did (d .did) (same-use refl refl refl refl refl refl));
       }

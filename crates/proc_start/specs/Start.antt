@@ -115,7 +115,7 @@ pub start-begin
 start-begin {z} {s} {M} {l} {p} {q} a r ne e d o =
     record {
       holds = a .well .holds;
-      new = newcomer-orphan (holds-bounds (a .well .holds)) (a .well .good) (o .parent);
+      new = newcomer-orphan (holds-bounds (a .well .holds)) (a .well .good) (o .parent) (o .link);
       at = l - 1;
       free = found-some r ne;
       pid = omega (arith, e, d, at-most (holds-bounds (a .well .holds)) fields.nextPid 0);

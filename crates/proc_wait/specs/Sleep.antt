@@ -104,7 +104,7 @@ went-asleep {z} {s} {s₁} {s₂} {s₃} {i} a t d p =
           (d .did .machine ∙ ap (λ (x : Machine). withProcess i (withResume machine.inWait (process x i)) x) (t .did .machine))
           (omega (arith, table-length (z .processes) (processAt (memIn z s)), low));
       touched =
-          touched-join (touched-join (touched-did (t .did) (same-use refl refl refl refl)) (touched-did (d .did) (same-use refl refl refl refl))) (touched-did (p .did) (same-use refl refl refl refl));
+          touched-join (touched-join (touched-did (t .did) (same-use refl refl refl refl refl refl)) (touched-did (d .did) (same-use refl refl refl refl refl refl))) (touched-did (p .did) (same-use refl refl refl refl refl refl));
     }
   where
     low : i < z .processes

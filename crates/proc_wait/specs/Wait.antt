@@ -32,7 +32,8 @@ use Rattle.exact.specs.Bounds.{InBounds, at-most, inside}
 use Rattle.holds.specs.Holds.{Holds}
 use Rattle.holds.specs.Whole.{holds-bounds}
 use Rattle.holds.specs.Did.{machineIn}
-use Rattle.holds.specs.Touched.{Spares, spares-did}
+use Rattle.holds.specs.Use.{kin-at}
+use Rattle.holds.specs.Touched.{Spares, settled-kin, spares-did}
 use Rattle.places.specs.Nowhere.{state-used}
 use Rattle.waitq.specs.declared.WaitState.{WaitState}
 use Rattle.waitq.specs.declared.WaitState.the-variants.{InUse, NoChild, Take, Sleep}
@@ -331,5 +332,5 @@ took-child {z} {s} {s₁} {i} {l} {p} {n} {r} {b} {b₁} a e d c t =
           c .bytes
           ∙ ap (λ (k : ℕ). messageIn z s (l - 1) ++ drop k b) (sym len)
           ∙ ap (λ (o : Exit). o .message ++ drop (length (o .message)) b) (sym x);
-      spares = spares-did (t .did);
+      spares = spares-did (t .did) (settled-kin (kin-at (sym (t .did .memory)) (t .fewer .kin)));
     }

@@ -136,7 +136,7 @@ canqlock-yes {z} {s} {s₁} {q} {t} a w e =
     in
     record {
       stepped = λ k.
-          stepped-done (canqlock-allowed a k) (w .yes e .holds 0 (a .well .holds)) (touched-did (w .yes e) (same-use refl refl refl refl) .spares) (sym (f .0)) (ap told (sym (f .0)))
+          stepped-done (canqlock-allowed a k) (w .yes e .holds 0 (a .well .holds)) (touched-did (w .yes e) (same-use refl refl refl refl refl refl) .spares) (sym (f .0)) (ap told (sym (f .0)))
           (w .yes e .machine ∙ sym (f .1));
     }
 

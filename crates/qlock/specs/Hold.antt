@@ -145,7 +145,7 @@ handed-none {z} {s} {s₁} {s₂} {q} {l} a d e p =
       machine = y .machine;
       readied = sym (h .1);
       range = omega arith;
-      touched = touched-did y (same-use refl refl refl refl);
+      touched = touched-did y (same-use refl refl refl refl refl refl);
     }
 
 pub hand-awaken : {z : Sizes} {s s₁ : List ℕ} {q l : ℕ} → HandAsks z s q → Dequeued z s s₁ q l → (l ≡ 0 → ⊥) → AwakenAsks z s₁ (l - 1)
@@ -165,7 +165,7 @@ handed-one {z} {s} {s₁} {s₂} {q} {l} a d ne w =
     in
     let t : isSet (m fields.held q) ≡ true = ap not (ne-eqb (m fields.held q) 0 (λ e. none-some (sym (o .split) ∙ a .held e))) in
     let y : Did z s s₂ same same (dequeueStores m q i ++ awakenStores (dequeueMem m q i) i) (awakenMem (dequeueMem m q i) i) (handOver q (machineIn z s) .machine) =
-    did-as (did-join (o .did) (w .did) (same-use refl refl refl refl))
+    did-as (did-join (o .did) (w .did) (same-use refl refl refl refl refl refl))
     (ap (λ (x : Memory). dequeueStores m q i ++ awakenStores x i) (o .did .memory))
     (ap (λ (x : Memory). awakenMem x i) (o .did .memory))
     (ap (ready i) (o .did .machine ∙ ap (λ (x : Bool). withLock q (record { held = x; waiters = o .rest }) (machineIn z s)) t) ∙ sym (h .0))
@@ -181,7 +181,7 @@ handed-one {z} {s} {s₁} {s₂} {q} {l} a d ne w =
       machine = y .machine;
       readied = ap (pidsOf m) e ∙ ap (λ (x : ℕ). x ∷ []) (sym (pid-of (holds-bounds (a .holds)) i)) ∙ sym (h .1);
       range = d .range;
-      touched = touched-did y (same-use refl refl refl refl);
+      touched = touched-did y (same-use refl refl refl refl refl refl);
     }
   where
     none-some : {x : ℕ} {xs : List ℕ} → x ∷ xs ≡ [] → ⊥

@@ -193,7 +193,7 @@ enqueued {z} {s} {s₁} {s₂} {s₃} {s₄} {q} {i} {r} {t} a o l d w p =
     in
     record {
       did =
-          did-as (did-join (o .did) g (same-use refl refl refl refl))
+          did-as (did-join (o .did) g (same-use refl refl refl refl refl refl))
           (ap (λ (k : Memory). to fields.asleepCount 0 (suc (asleepIn (memIn z s))) ∷ lastStores k q i) (c .memory))
           (ap (λ (k : Memory). enqueueMem k q i) (c .memory))
           (ap₂ (λ (x : Lock) (y : Machine). withLock q x y) locked (o .did .machine));

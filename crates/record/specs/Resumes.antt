@@ -1,9 +1,12 @@
 -- The cases of `resume`, their numbers, and what they stand for.
 use mathlib.Core.Path.{_≡_, refl}
+use mathlib.Core.Logic.{inl, inr}
 use Prim.Native.Nat.{ℕ}
 use borrow.Author.Tests.{ne-eqb}
 use Rattle.machine.specs.Machine as machine
 use Rattle.state.specs.Abs.{resumeNumber, resumeOf}
+use Rattle.state.specs.WellFormed.{Blank}
+use Rattle.state.specs.Blanks.{blank-sleep, blank-lock, blank-both}
 use Rattle.record.specs.declared.Resume.{Resume}
 use Rattle.record.specs.declared.Resume.the-variants.{Nothing, Sleep, Tsleep, Qlock, Wait}
 
@@ -78,3 +81,11 @@ same-number (Sleep r c) = refl
 same-number (Tsleep r c) = refl
 same-number (Qlock q) = refl
 same-number Wait = refl
+
+-- A case holds 0 for what it does not have.
+pub case-blank : (r : Resume) → Blank (numberOf r) (objectOf r) (conditionOf r)
+case-blank Nothing = blank-both refl refl
+case-blank (Sleep r c) = blank-sleep (inl refl)
+case-blank (Tsleep r c) = blank-sleep (inr refl)
+case-blank (Qlock q) = blank-lock refl refl
+case-blank Wait = blank-both refl refl

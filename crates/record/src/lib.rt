@@ -70,7 +70,7 @@ pub fn resume_number(r: Resume) -> u8
             condition: _,
         } => 2,
         Resume::Qlock { lock: _ } => 3,
-        Resume::Wait => 4,
+        Resume::Wait => state::WAIT,
     }
 }
 

@@ -11,6 +11,7 @@ use Rattle.machine.specs.Places.{ready}
 use Rattle.machine.specs.Perform.{made}
 use Rattle.layout.specs.Memory.{Memory}
 use Rattle.layout.specs.Writes.{Write}
+use Rattle.chain.specs.Links.{alter-other}
 use Rattle.state.specs.Fields as fields
 use Rattle.state.specs.Abs.{linkTo, machineOf}
 use Rattle.state.specs.Places.{sizesIn, memIn}
@@ -18,6 +19,7 @@ use Rattle.state.specs.declared.Sizes.{Sizes}
 use Rattle.record.specs.declared.Proc.{Proc}
 use Rattle.holds.specs.Holds.{Holds}
 use Rattle.holds.specs.Use.{same-use}
+use Rattle.holds.specs.Touched.{Settled}
 use Rattle.holds.specs.Did.{Did, did-join, did-as, machineIn, same}
 use Rattle.places.specs.Nowhere.{Nowhere}
 use Rattle.free.specs.Asks.{RecordsIn, records-in}
@@ -59,6 +61,8 @@ pub record AllocOne (z : Sizes) (s s′ : List ℕ) (p : Proc) (i : ℕ) : Type 
   pub did
       : Did z s s′ same same (allocStores (z .processes) (memIn z s) i p) (allocMem (z .processes) (memIn z s) i p) (born i p (machineIn z s))
   pub nowhere : Nowhere (sizesIn z) (memIn z s′) i
+  -- the links of the others to their parents stay
+  pub settled : Settled (memIn z s) (allocMem (z .processes) (memIn z s) i p)
 
 -- The link r names it; it is 0 where no record is free, and then nothing is stored.
 pub record Allocated (z : Sizes) (s s′ : List ℕ) (p : Proc) (r : ℕ) : Type 0 where
@@ -120,11 +124,17 @@ module _ {z : Sizes} {s : List ℕ} {p : Proc} (a : AllocAsks z s p) where
                 record {
                   found = sym (f .machine) ∙ ap linkTo q;
                   did =
-                      did-as (did-join (t .did) (d .did) (same-use refl refl refl refl))
+                      did-as (did-join (t .did) (d .did) (same-use refl refl refl refl refl refl))
                       (λ k. pidStores (memIn z s) ++ occupyStores n (t .did .memory k) i p (t .pid k))
                       (λ k. occupyMem n (t .did .memory k) i p (t .pid k))
                       (λ k. withProcess i (newProcess (t .pid k) p) (t .did .machine k));
                   nowhere = d .nowhere;
+                  settled =
+                      record {
+                        stays = λ j u.
+                            alter-other (memIn z s fields.parentAt) i (p .«parent_at») j
+                            (λ e. omega (arith, u, here .1, ap (memIn z s fields.pid) e));
+                      };
                 };
             range = f .range;
           }

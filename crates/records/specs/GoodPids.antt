@@ -12,7 +12,7 @@ use Rattle.record.specs.declared.Proc.{Proc}
 use Rattle.exact.specs.Bounds.{InBounds}
 use Rattle.exact.specs.Parts.{pid-of, used-of}
 use Rattle.ages.specs.Kept.{pids-apart}
-use Rattle.records.specs.New.{Newcomer}
+use Rattle.records.specs.New.{HasKin, orphan, child, Newcomer}
 
 module _ {z : Sizes} {m : Memory} (b : InBounds z m) (g : Good (machineOf z m)) where
   -- All pids are below the next one, and so are those of all parents.
@@ -31,13 +31,14 @@ module _ {z : Sizes} {m : Memory} (b : InBounds z m) (g : Good (machineOf z m)) 
       )
 
   -- A process without a parent.
-  pub newcomer-orphan : {p : Proc} → p .parent ≡ 0 → Newcomer m p (m fields.nextPid 0)
-  newcomer-orphan e =
+  pub newcomer-orphan : {p : Proc} → p .parent ≡ 0 → p .«parent_at» ≡ 0 → Newcomer m p (m fields.nextPid 0)
+  newcomer-orphan e n =
       record {
         above = pids-below;
         parents = parents-below;
         parent = omega (arith, e, pids-below 0);
         link = λ j u d. absurd (omega (arith, u, d, e));
+        kin = orphan e n;
       }
 
   -- The child of the process of record i.
@@ -54,4 +55,5 @@ module _ {z : Sizes} {m : Memory} (b : InBounds z m) (g : Good (machineOf z m)) 
         parents = parents-below;
         parent = omega (arith, e, pids-below i);
         link = λ j v d. l ∙ ap suc (pids-apart a i j u (sym e ∙ d));
+        kin = child (omega (arith, u, e)) (ap (m fields.pid) (omega (arith, l)) ∙ sym e);
       }

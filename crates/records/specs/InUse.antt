@@ -1,26 +1,27 @@
 -- What the stores to records go to: the machine uses it.
-use mathlib.Core.Path.{_≡_, refl}
+use mathlib.Core.Path.{_≡_, refl, ap, _∙_}
 use mathlib.Core.Bool.{Bool, true, false}
 use mathlib.Core.List.{List, [], _∷_}
-use Prim.Native.Nat.{ℕ, suc, _+_, _*_, _/_, _^_, _≤_, _<_}
+use Prim.Native.Nat.{ℕ, suc, _+_, _-_, _*_, _/_, _^_, _≤_, _<_}
 use native.Mathlib.Omega.{arith}
-use lib.Dec.{lit<}
+use borrow.Author.Tests.{eq-eqb, ne-eqb}
+use lib.Dec.{eqb, lit<}
 use lib.ListN.{length}
-use Rattle.layout.specs.Memory.{Memory}
+use Rattle.layout.specs.Memory.{Memory, alter}
 use Rattle.layout.specs.Writes.{to}
-use Rattle.chain.specs.Links.{alter-same}
+use Rattle.chain.specs.Links.{alter-same, alter-other}
 use Rattle.state.specs.Fields as fields
 use Rattle.state.specs.Places.{sizesIn}
 use Rattle.state.specs.WellFormed.{Used, Ages, isFull}
 use Rattle.state.specs.declared.Sizes.{Sizes}
 use Rattle.record.specs.declared.Proc.{Proc}
 use Rattle.record.specs.Stores.{idStores, tieStores, countStores, resumeStores, nameStores, recordStores}
-use Rattle.holds.specs.Use.{usedBy, EachInUse, none, more, before, after, in-use-runs, Fewer}
-use Rattle.holds.specs.Fewer.{zeros-alter, fewer-by}
+use Rattle.holds.specs.Use.{kinUse, usedBy, EachInUse, none, more, before, after, in-use-runs, Smaller}
+use Rattle.holds.specs.Fewer.{shrunk-alter, smaller-by}
 use Rattle.free.specs.Record.{wordOf, bitOf}
 use Rattle.free.specs.UseRecord.{recordWrites, useRecordWrites, dropRecordWrites}
 use Rattle.ages.specs.InUse.{in-in-use, out-in-use}
-use Rattle.records.specs.New.{newRecord}
+use Rattle.records.specs.New.{newRecord, HasKin, orphan, child, Newcomer}
 use Rattle.records.specs.Occupy.{takenMem, occupyStores, occupyMem}
 use Rattle.records.specs.Release.{releaseStores, releaseMem}
 
@@ -46,14 +47,14 @@ name-in-use i k j (b ∷ bs) u e l =
     more {w = to fields.nameByte k b} (after (rw q u)) (name-in-use i (suc k) (suc j) bs u (omega arith) (omega arith))
 
 -- A whole record, of i who lives after.
-module _ {z : Sizes} {m m′ : Memory} (i : ℕ) (p : Proc) (u : 0 < m′ fields.pid i) where
+module _ {z : Sizes} {m m′ : Memory} (i : ℕ) (p : Proc) (u : 0 < m′ fields.pid i) (k : 0 < kinUse (m′ fields.pid) (m′ fields.parent) (m′ fields.parentAt) i) where
   ids-in-use : EachInUse z m m′ (idStores i p)
   unfolding usedBy
   ids-in-use = more (after u) (more (after u) (more (after u) none))
 
   ties-in-use : EachInUse z m m′ (tieStores i p)
   unfolding usedBy
-  ties-in-use = more (after u) (more (after u) (more (after u) (more (after u) none)))
+  ties-in-use = more (after u) (more (after u) (more (after u) (more (after k) none)))
 
   counts-in-use : EachInUse z m m′ (countStores i p)
   unfolding usedBy
@@ -68,13 +69,24 @@ module _ {z : Sizes} {m m′ : Memory} (i : ℕ) (p : Proc) (u : 0 < m′ fields
       in-use-runs (in-use-runs (in-use-runs (in-use-runs ids-in-use ties-in-use) counts-in-use) calls-in-use)
       (name-in-use i (28 * i) 0 (p .text) u (omega arith) (omega arith))
 
--- A new process in record i, with a pid above 0.
+-- The link of a new process to its parent, who lives, or to none.
+born-kin
+    : (g ps ls : ℕ → ℕ) (i v p l : ℕ) → g i ≡ 0 → 0 < v → HasKin g p l → 0 < kinUse (alter g i v) (alter ps i p) (alter ls i l) i
+born-kin g ps ls i v p l f h (orphan e n) = rw (alter-same ps i p, e, alter-same g i v) h
+born-kin g ps ls i v p l f h (child q e) =
+    let d : eqb (alter g i v (l - 1)) p ≡ true =
+    eq-eqb (alter g i v (l - 1)) p (alter-other g i v (l - 1) (λ x. omega (arith, q, e, f, ap g x)) ∙ e)
+    in
+    rw (alter-same ps i p, alter-same ls i l, d, ne-eqb p 0 (λ x. omega (arith, x, q)), alter-same g i v) h
+
+-- A new process in record i.
 pub occupy-in-use
-    : {z : Sizes} {m : Memory} (n i : ℕ) (p : Proc) (v : ℕ) → Ages (sizesIn z) m → 0 < v → length (p .text) ≡ 28
+    : {z : Sizes} {m : Memory} (n i : ℕ) (p : Proc) (v : ℕ) → Ages (sizesIn z) m → m fields.pid i ≡ 0 → Newcomer m p v → length (p .text) ≡ 28
     → EachInUse z m (occupyMem n m i p v) (occupyStores n m i p v)
-occupy-in-use {m = m} n i p v a h w =
+occupy-in-use {m = m} n i p v a f c w =
+    let h : 0 < v = omega (arith, c .above i) in
     let u : 0 < occupyMem n m i p v fields.pid i = rw (alter-same (m fields.pid) i v) h in
-    in-use-runs (in-use-runs (mark-in-use n m i) (in-in-use i a u)) (record-in-use i (newRecord (takenMem n m i) i p v) u w)
+    in-use-runs (in-use-runs (mark-in-use n m i) (in-in-use i a u)) (record-in-use i (newRecord (takenMem n m i) i p v) u (born-kin (m fields.pid) (m fields.parent) (m fields.parentAt) i v (p .parent) (p .«parent_at») f h (c .kin)) w)
 
 -- The record of i, who lived, is freed; nothing more is used then.
 pub release-in-use
@@ -83,5 +95,5 @@ unfolding usedBy
 release-in-use {m = m} n i a u =
     in-use-runs (in-use-runs (out-in-use i a u) (unmark-in-use n m i)) (more (before u) (more (before u) none))
 
-pub release-fewer : {z : Sizes} (n : ℕ) (m : Memory) (i : ℕ) → Fewer z m (releaseMem n m i)
-release-fewer n m i = fewer-by (zeros-alter (m fields.pid) i) (λ j e. e) (λ j e. e) (λ c. refl)
+pub release-smaller : {z : Sizes} (n : ℕ) (m : Memory) (i : ℕ) → Smaller z m (releaseMem n m i)
+release-smaller n m i = smaller-by (shrunk-alter (m fields.pid) i) refl refl (λ j e. e) (λ j e. e) (λ c. refl)

@@ -75,7 +75,7 @@ nchild-set {z} {s} {s₁} {i} {v} a h q =
           refl
           (λ n x.
           keeps-with (others x)
-          (placed-same n refl refl refl refl refl refl refl refl refl refl refl refl (own-asleep b (a .used) (nchild-else m i v) p refl) (x .placed)))
+          (placed-same n refl refl refl refl refl refl refl refl refl refl refl refl refl (own-asleep b (a .used) (nchild-else m i v) p refl) (x .placed)))
           (own-machine b (a .used) (nchild-else m i v) p)
           (more (before (a .used)) none);
     }

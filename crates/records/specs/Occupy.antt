@@ -14,6 +14,7 @@ use Rattle.chain.specs.Links.{alter-same}
 use Rattle.state.specs.Fields as fields
 use Rattle.state.specs.Abs.{resumeOf, exitAt, processAt, machineOf}
 use Rattle.state.specs.WellFormed.{Used, Ages, Index}
+use Rattle.state.specs.Blanks.{blank-both}
 use Rattle.record.specs.declared.Proc.{Proc}
 use Rattle.record.specs.Stores.{recordStores}
 use Rattle.exact.specs.Bounds.{InBounds}
@@ -29,7 +30,7 @@ use Rattle.records.specs.Parts.{else-machine, else-asleep, else-header, 
 use Rattle.records.specs.Off.{free-off, else-nowhere, else-placed}
 use Rattle.records.specs.Exits.{free-owns, no-exits, else-cells}
 use Rattle.records.specs.Store.{storedMem, stored-else}
-use Rattle.records.specs.New.{newRecord, newProcess, Newcomer}
+use Rattle.records.specs.New.{newRecord, newProcess, orphan-link, Newcomer}
 
 -- Record i of n, marked as in use and the youngest; and then with its process.
 abbrev pub takenMem : ℕ → Memory → ℕ → Memory
@@ -102,6 +103,7 @@ module _ {z : machine.Sizes} {m : Memory} {i : ℕ} {p : Proc} {v : ℕ} (b : In
   unfolding free
   occupy-placed q =
       else-placed e (free-off i q off) q (λ d. absurd (omega (arith, d, used))) (λ u. omega (arith, occupy-state (z .processes) m i p v))
+      (λ u. blank-both (alter-same (m fields.resumeObject) i 0) (alter-same (m fields.resumeCondition) i 0))
       (else-asleep z e l (ap (λ (x : Process). x .onWaitr) new ∙ sym (ap (λ (x : Process). x .onWaitr) (process-of b i ∙ free-at m i off))))
 
   occupy-ages : Ages z m → Ages z k
@@ -122,6 +124,9 @@ module _ {z : machine.Sizes} {m : Memory} {i : ℕ} {p : Proc} {v : ℕ} (b : In
         parents = λ j u. omega (arith, occupy-pid (z .processes) m i p v, c .parents j u);
         parent = omega (arith, occupy-pid (z .processes) m i p v, alter-same (m fields.parent) i (p .parent), c .parent);
         link = λ j u d. alter-same (m fields.parentAt) i (p .«parent_at») ∙ c .link j u (sym (alter-same (m fields.parent) i (p .parent)) ∙ d);
+        orphan = λ d.
+            alter-same (m fields.parentAt) i (p .«parent_at»)
+            ∙ orphan-link (c .kin) (sym (alter-same (m fields.parent) i (p .parent)) ∙ d);
       })
       .ages
 

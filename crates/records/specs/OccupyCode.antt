@@ -156,7 +156,7 @@ module _ {z : Sizes} {s : List ℕ} {i : ℕ} {p : Proc} {v : ℕ} (a : OccupyAs
                   did-stored (stored .state) (wrote-runs first next last .bytes) ok e
                   (λ n q. occupy-keeps b (a .index) (a .free) (a .text .length) (a .new) q words)
                   (occupy-machine b (a .index) (a .free) (a .text .length) (a .new))
-                  (occupy-in-use (z .processes) i p v (a .holds .keeps .ages) (omega (arith, a .new .above i)) (a .text .length));
+                  (occupy-in-use (z .processes) i p v (a .holds .keeps .ages) (a .free) (a .new) (a .text .length));
               nowhere =
                   subst (λ (x : Memory). Nowhere (sizesIn z) x i) (sym e)
                   (occupy-nowhere b (a .index) (a .free) (a .text .length) (a .new) (a .holds .keeps .placed));

@@ -47,7 +47,7 @@ pid-asleep z m = ap asleep (pid-machine z m)
 
 pid-keeps : {z : machine.Sizes} {m : Memory} (n : ℕ) → Keeps z m n → Keeps z (pidMem m) n
 pid-keeps {z} {m} n k =
-    keeps-with (others k) (placed-same n refl refl refl refl refl refl refl refl refl refl refl refl (pid-asleep z m) (k .placed))
+    keeps-with (others k) (placed-same n refl refl refl refl refl refl refl refl refl refl refl refl refl (pid-asleep z m) (k .placed))
 
 -- What the code shows.
 pub pid-taken

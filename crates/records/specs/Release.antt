@@ -69,6 +69,7 @@ module _ {z : machine.Sizes} {m : Memory} {i : ℕ} (b : InBounds z m) (w : Nowh
   unfolding free
   release-placed q =
       else-placed e (nowhere-off w) q (λ d. alter-same (m fields.stateOf) i 0) (λ u. absurd (omega (arith, gone, u)))
+      (λ u. absurd (omega (arith, gone, u)))
       (else-asleep z e (inside b fields.pid i (w .used))
       (ap (λ (x : Process). x .onWaitr) (free-at k i gone) ∙ sym (ap (λ (x : Process). x .onWaitr) (used-of b i (w .used)) ∙ w .waitr)))
 

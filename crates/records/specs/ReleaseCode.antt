@@ -20,7 +20,7 @@ use Rattle.exact.specs.Bounds.{InBounds, inside}
 use Rattle.holds.specs.Holds.{Holds}
 use Rattle.holds.specs.Whole.{holds-bounds}
 use Rattle.holds.specs.Frames.{index-same}
-use Rattle.holds.specs.Use.{Fewer}
+use Rattle.holds.specs.Use.{Smaller}
 use Rattle.holds.specs.Did.{Did, machineIn, same, writesIn, WritableIn, writable-join, wrote-2}
 use Rattle.places.specs.Nowhere.{Nowhere}
 use Rattle.free.specs.Asks.{records-in}
@@ -32,7 +32,7 @@ use Rattle.ages.specs.Out.{ageOutStores, ageOutMem, AgedOut}
 use Rattle.records.specs.Else.{partOf}
 use Rattle.records.specs.Store.{did-stored}
 use Rattle.records.specs.Release.{goneStores, releaseStores, goneMem, releaseMem, release-else, release-machine, release-found, release-keeps}
-use Rattle.records.specs.InUse.{release-in-use, release-fewer}
+use Rattle.records.specs.InUse.{release-in-use, release-smaller}
 
 -- The process is nowhere, and has no exits left.
 pub record ReleaseAsks (z : Sizes) (s : List ℕ) (i : ℕ) : Type 0 where
@@ -46,7 +46,7 @@ pub record Released (z : Sizes) (s s′ : List ℕ) (i : ℕ) : Type 0 where
   pub did
       : Did z s s′ same same (releaseStores (z .processes) (memIn z s) i) (releaseMem (z .processes) (memIn z s) i)
       (withProcess i free (machineIn z s))
-  pub fewer : Fewer z (memIn z s) (memIn z s′)
+  pub smaller : Smaller z (memIn z s) (memIn z s′)
   -- whoever is found by another pid still is
   pub found : (q : ℕ) → (memIn z s fields.pid i ≡ q → ⊥) → found q (machineIn z s′) ≡ found q (machineIn z s)
 
@@ -118,7 +118,7 @@ module _ {z : Sizes} {s : List ℕ} {i : ℕ} (a : ReleaseAsks z s i) where
               (λ o q. release-keeps b (a .nowhere) (a .exits) q words)
               (release-machine b (a .nowhere))
               (release-in-use n i (a .holds .keeps .ages) (a .nowhere .used));
-          fewer = subst (Fewer z m) (sym e) (release-fewer n m i);
+          smaller = subst (Smaller z m) (sym e) (release-smaller n m i);
           found = λ q ne.
               ap (λ (x : Memory). found q (machineOf (sizesIn z) x)) e ∙ release-found b (a .nowhere) (a .holds .keeps .ages) q ne;
         }

@@ -83,7 +83,7 @@ name-set {z} {s} {s₁} {i} {text} a q =
           (spelled-stores m (28 * i) text)
           (λ n x.
           keeps-with (others x)
-          (placed-same n refl refl refl refl refl refl refl refl refl refl refl refl (own-asleep b (a .living .used) e p refl) (x .placed)))
+          (placed-same n refl refl refl refl refl refl refl refl refl refl refl refl refl (own-asleep b (a .living .used) e p refl) (x .placed)))
           (own-machine b (a .living .used) e p)
           (name-in-use i (28 * i) 0 text (a .living .used) (omega arith) (omega arith));
     }

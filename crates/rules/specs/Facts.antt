@@ -15,7 +15,7 @@ use Rattle.chain.specs.Links.{Links, Chain, Queue}
 use Rattle.chain.specs.Ordered.{Sorted}
 use Rattle.state.specs.Fields as fields
 use Rattle.state.specs.Abs.{isSet, runList, waiterList, timerList, exitList}
-use Rattle.state.specs.WellFormed.{Used, ageList, Rising, Index}
+use Rattle.state.specs.WellFormed.{Used, Blank, NoLink, ageList, Rising, Index}
 
 -- How many numbers below n pass a test, and the sum of f over the numbers below n.
 unfoldable pub countBelow : ℕ → (ℕ → Bool) → ℕ
@@ -41,16 +41,29 @@ pub record CallOk (z : Sizes) (m : Memory) (i : ℕ) : Type 0 where
   pub asleep : m fields.stateOf i ≡ 3 → m fields.resumeKind i ≡ 0 → ⊥
   pub sleeping : m fields.stateOf i ≡ 3 → (m fields.resumeKind i ≡ 1) ⊎ (m fields.resumeKind i ≡ 2) → m fields.sleeperOf (m fields.resumeObject i) ≡ suc i
 
--- Record i by itself: free, or a process whose numbers are in range.
+abbrev pub BlankAt : Memory → ℕ → Type 0
+BlankAt m i = Blank (m fields.resumeKind i) (m fields.resumeObject i) (m fields.resumeCondition i)
+
+abbrev pub UnlinkedAt : Memory → ℕ → Type 0
+UnlinkedAt m i = NoLink (m fields.stateOf i) (m fields.resumeKind i) (m fields.next i)
+
+abbrev pub OrphanAt : Memory → ℕ → Type 0
+OrphanAt m i = m fields.parent i ≡ 0 → m fields.parentAt i ≡ 0
+
+-- Record i by itself: free, or a process whose numbers are in range and 0 where its call or its parent has none; its link is 0 where it has
+-- none.
 pub record UsedOk (z : Sizes) (m : Memory) (i : ℕ) : Type 0 where
   pub state : 0 < m fields.stateOf i
   pub below : m fields.pid i < m fields.nextPid 0
   pub parent : m fields.parent i < m fields.pid i
   pub quantum : m fields.quantumEnd i ≤ m fields.ticks 0 + 10
   pub call : CallOk z m i
+  pub blank : BlankAt m i
+  pub orphan : OrphanAt m i
 
 pub record RecordOk (z : Sizes) (m : Memory) (i : ℕ) : Type 0 where
   pub free : m fields.pid i ≡ 0 → m fields.stateOf i ≡ 0
+  pub unlinked : UnlinkedAt m i
   pub used : Used m i → UsedOk z m i
 
 -- Who sleeps on Rendez r is asleep in a `sleep` or `tsleep` on it.

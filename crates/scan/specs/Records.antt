@@ -9,7 +9,7 @@ use Rattle.layout.specs.Memory.{Memory}
 use Rattle.state.specs.Fields as fields
 use Rattle.state.specs.declared.Sizes as code
 use Rattle.rules.specs.Code.{memIn, Whole}
-use Rattle.rules.specs.Facts.{CallOk, UsedOk, RecordOk, SleepsHere, RendezOk, UpOk}
+use Rattle.rules.specs.Facts.{CallOk, UnlinkedAt, UsedOk, RecordOk, SleepsHere, RendezOk, UpOk}
 use Rattle.scan.specs.Asks.{one-or-two, is-one-or-two, LinkIs}
 
 module _ {z : Sizes} {m : Memory} {i : ℕ} where
@@ -82,8 +82,11 @@ module _ {z : Sizes} {m : Memory} {i : ℕ} where
   sleep-no o p t a b s n h =
       n (p ∙ ap (m fields.sleeperOf) o ∙ h .sleeping (omega arith) (is-one-or-two _ a b) ∙ sym (add-one i))
 
-  pub record-used : (m fields.pid i ≡ 0 → ⊥) → UsedOk z m i → RecordOk z m i
-  record-used a u = record { free = λ e. absurd (a e); used = λ _. u }
+  pub record-used : UnlinkedAt m i → (m fields.pid i ≡ 0 → ⊥) → UsedOk z m i → RecordOk z m i
+  record-used n a u = record { free = λ e. absurd (a e); unlinked = n; used = λ _. u }
+
+  pub record-free : UnlinkedAt m i → m fields.pid i ≡ 0 → m fields.stateOf i ≡ 0 → RecordOk z m i
+  record-free n a e = record { free = λ _. e; unlinked = n; used = λ u. absurd (omega (arith, a, u)) }
 
 -- a link to the one that a field names
 same-one : {link i : ℕ} → (link ≡ 0 → ⊥) → link ≡ suc i → link - 1 ≡ i

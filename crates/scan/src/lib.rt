@@ -7,7 +7,7 @@ ghost use Prim.Native.Nat.{ℕ, _+_, _<_, _≤_};
 ghost use Rattle.state.specs.Fields as fields;
 ghost use Rattle.state.specs.Places.{sizesIn};
 ghost use Rattle.rules.specs.Code.{memIn, Whole, Decides};
-ghost use Rattle.rules.specs.Facts.{HeaderOk, CallOk, UsedOk, RecordOk, SleepsHere, RendezOk, UpOk, WaitsHere, countBelow, isReady, isAsleep, isQueueing};
+ghost use Rattle.rules.specs.Facts.{HeaderOk, CallOk, BlankAt, UnlinkedAt, OrphanAt, UsedOk, RecordOk, SleepsHere, RendezOk, UpOk, WaitsHere, countBelow, isReady, isAsleep, isQueueing};
 ghost use Rattle.scan.specs.Asks.{At, SleepAsks, RendezAt, LockAt, LinkIs};
 ghost use Rattle.scan.specs.Tallies.{Tally, Counted, AsleepAsks};
 ghost use Rattle.scan.specs.Lines.{Member, LineAsks, LineWalked};
@@ -93,6 +93,71 @@ pub fn call_ok(s: &[u8], z: Sizes, i: Index) -> bool
     true
 }
 
+// Does the call of record `i` hold 0 for what it does not have?
+fn blank_ok(s: &[u8], z: Sizes, i: Index) -> bool
+    requires { ⌜ At z (now s) i ⌝ }
+    ensures { λ r. ⌜ Decides r (BlankAt (memIn z (now (s .entry))) i) ⌝ }
+{
+    let kind = state::get8(s, z, state::PROCESS, state::RESUME_KIND, i);
+    if kind == 1 {
+        return true;
+    }
+    if kind == 2 {
+        return true;
+    }
+    let condition = state::get8(s, z, state::PROCESS, state::RESUME_CONDITION, i);
+    if condition != 0 {
+        return false;
+    }
+    if kind == 3 {
+        return true;
+    }
+    let object = state::get16(s, z, state::PROCESS, state::RESUME_OBJECT, i);
+    if object != 0 {
+        return false;
+    }
+    true
+}
+
+// Does record `i` name no parent's record where it has no parent?
+fn orphan_ok(s: &[u8], z: Sizes, i: Index) -> bool
+    requires { ⌜ At z (now s) i ⌝ }
+    ensures { λ r. ⌜ Decides r (OrphanAt (memIn z (now (s .entry))) i) ⌝ }
+{
+    let parent = state::get64(s, z, state::PROCESS, state::PARENT, i);
+    if parent != 0 {
+        return true;
+    }
+    let at = state::get16(s, z, state::PROCESS, state::PARENT_AT, i);
+    if at != 0 {
+        return false;
+    }
+    true
+}
+
+// Is the link of record `i` 0 where it has none?
+fn link_ok(s: &[u8], z: Sizes, i: Index) -> bool
+    requires { ⌜ At z (now s) i ⌝ }
+    ensures { λ r. ⌜ Decides r (UnlinkedAt (memIn z (now (s .entry))) i) ⌝ }
+{
+    let next = state::get16(s, z, state::PROCESS, state::NEXT, i);
+    if next == 0 {
+        return true;
+    }
+    let state = state::get8(s, z, state::PROCESS, state::STATE_OF, i);
+    if state == 2 {
+        return true;
+    }
+    if state != 3 {
+        return false;
+    }
+    let kind = state::get8(s, z, state::PROCESS, state::RESUME_KIND, i);
+    if kind != 3 {
+        return false;
+    }
+    true
+}
+
 // Is the end of a quantum at most ten ticks away?
 fn near(end: u64, ticks: u64) -> bool
     ensures { λ r. ⌜ Decides r (end ≤ ticks + 10) ⌝ }
@@ -132,6 +197,12 @@ pub fn used_ok(s: &[u8], z: Sizes, i: Index) -> bool
     if !call_ok(s, z, i) {
         return false;
     }
+    if !blank_ok(s, z, i) {
+        return false;
+    }
+    if !orphan_ok(s, z, i) {
+        return false;
+    }
     true
 }
 
@@ -140,6 +211,9 @@ pub fn record_ok(s: &[u8], z: Sizes, i: Index) -> bool
     requires { ⌜ At z (now s) i ⌝ }
     ensures { λ r. ⌜ Decides r (RecordOk (sizesIn z) (memIn z (now (s .entry))) i) ⌝ }
 {
+    if !link_ok(s, z, i) {
+        return false;
+    }
     let pid = state::get64(s, z, state::PROCESS, state::PID, i);
     if pid == 0 {
         let state = state::get8(s, z, state::PROCESS, state::STATE_OF, i);

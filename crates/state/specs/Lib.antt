@@ -4,5 +4,6 @@ pub mod Ranges
 pub mod Abs
 pub mod Tables
 pub mod WellFormed
+pub mod Blanks
 pub mod Places
 pub mod Shown

@@ -1,6 +1,6 @@
 -- When the bytes are a state: what the layout asks of its links, tags and counts, and the rules of the machine that they hold.
 use mathlib.Core.Path.{_≡_}
-use mathlib.Core.Bool.{Bool, not, _&&_}
+use mathlib.Core.Bool.{Bool, false, not, _&&_, _||_}
 use mathlib.Core.List.{List, [], _∷_, reverse}
 use Prim.Native.Nat.{ℕ, zero, suc, _+_, _-_, _*_, _^_, _≤_, _<_}
 use lib.Dec.{eqb, ltb}
@@ -21,6 +21,31 @@ markValue = 5426368344079553864
 abbrev pub Used : Memory → ℕ → Type 0
 Used m i = 0 < m fields.pid i
 
+-- A process has a link where it is ready, and where it is asleep and waits for a lock; a `sleep`, a `tsleep` and a `qlock` have an object, the
+-- first two a condition.
+abbrev pub isLinked : (state kind : ℕ) → Bool
+isLinked state kind = eqb state 2 || eqb state 3 && eqb kind 3
+
+abbrev pub hasObject : ℕ → Bool
+hasObject kind = eqb kind 1 || eqb kind 2 || eqb kind 3
+
+abbrev pub hasCondition : ℕ → Bool
+hasCondition kind = eqb kind 1 || eqb kind 2
+
+-- A call holds 0 for what it does not have, and a record for a link that it does not have.
+pub record Blank (kind o c : ℕ) : Type 0 where
+  pub object : hasObject kind ≡ false → o ≡ 0
+  pub condition : hasCondition kind ≡ false → c ≡ 0
+
+abbrev pub Blanks : (pid kind object condition : ℕ → ℕ) → Type 0
+Blanks pid kind object condition = (i : ℕ) → 0 < pid i → Blank (kind i) (object i) (condition i)
+
+pub record NoLink (state kind next : ℕ) : Type 0 where
+  pub zero : isLinked state kind ≡ false → next ≡ 0
+
+abbrev pub Unlinked : (state kind next : ℕ → ℕ) → Type 0
+Unlinked state kind next = (i : ℕ) → NoLink (state i) (kind i) (next i)
+
 -- Each record's state is the queue it is found in; a free record's is 0.
 pub record Tagged (z : Sizes) (m : Memory) : Type 0 where
   pub free : (i : ℕ) → m fields.pid i ≡ 0 → m fields.stateOf i ≡ 0
@@ -29,6 +54,8 @@ pub record Tagged (z : Sizes) (m : Memory) : Type 0 where
   pub ready : Each (λ i. m fields.stateOf i ≡ 2) (runList z m)
   pub sleeping : (r i : ℕ) → m fields.sleeperOf r ≡ suc i → m fields.stateOf i ≡ 3
   pub queueing : (q : ℕ) → Each (λ i. m fields.stateOf i ≡ 3) (waiterList z m q)
+  pub unlinked : Unlinked (m fields.stateOf) (m fields.resumeKind) (m fields.next)
+  pub blanks : Blanks (m fields.pid) (m fields.resumeKind) (m fields.resumeObject) (m fields.resumeCondition)
 
 -- Each queue's links run from head to tail once.
 pub record Queues (z : Sizes) (m : Memory) : Type 0 where
@@ -62,6 +89,8 @@ pub record Ages (z : Sizes) (m : Memory) : Type 0 where
   pub living : (i : ℕ) → count i (ageList z m) ≡ (if isSet (m fields.pid i) then 1 else 0)
   -- a living parent is at the record that its child names
   pub parentAt : (i j : ℕ) → Used m i → Used m j → m fields.parent i ≡ m fields.pid j → m fields.parentAt i ≡ suc j
+  -- without a parent it names none
+  pub orphan : (i : ℕ) → Used m i → m fields.parent i ≡ 0 → m fields.parentAt i ≡ 0
 
 -- The number whose bit b is set where f b holds, for b below n.
 unfoldable pub bits : (ℕ → Bool) → ℕ → ℕ

@@ -110,6 +110,9 @@ pub const STATE_OF: u8 = 37;
 
 pub const RESUME_KIND: u8 = 38;
 
+// the kind of a call that is a `wait`
+pub const WAIT: u8 = 4;
+
 pub const RESUME_CONDITION: u8 = 39;
 
 pub const RESUME_OBJECT: u8 = 40;

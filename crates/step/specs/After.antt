@@ -26,7 +26,7 @@ use Rattle.kept.specs.Kept.{good-outcome}
 use Rattle.holds.specs.Holds.{Holds}
 use Rattle.holds.specs.Whole.{well-holds, holds-sizes, holds-machine, holds-rep}
 use Rattle.holds.specs.Did.{machineIn}
-use Rattle.holds.specs.Use.{usedBy}
+use Rattle.holds.specs.Use.{usedIn}
 use Rattle.holds.specs.Touched.{spares-length, spares-behind, spares-unused}
 use Rattle.outcome.specs.declared.Reply.{Reply}
 use Rattle.outcome.specs.Stepped.{Well, leftBytes}
@@ -42,9 +42,7 @@ writesTo s ws = writes fields.layout1 (fields.counts (sizesOf s)) s ws
 
 -- Whether the machine of the bytes s may use field f of number i: 0 where it does not.
 abbrev usedAt : machine.Sizes → List ℕ → ℕ → ℕ → ℕ
-usedAt v s =
-    let m : Memory = mem fields.layout1 (fields.counts v) s in
-    usedBy (v .timers) (m fields.pid) (m fields.isQueued) (m fields.owner) (m fields.messageLength)
+usedAt v s = usedIn v (mem fields.layout1 (fields.counts v) s)
 
 abbrev pub usedOf : List ℕ → ℕ → ℕ → ℕ
 usedOf s = usedAt (sizesOf s) s
@@ -56,7 +54,8 @@ leftOf s n (some x) =
     if eqb n 11 && on 2 "rfork" (λ F M. eqb M 3) (x .body) then writesTo s (to fields.nextPid 0 (suc (abs s .nextPid)) ∷ []) else s
 
 -- The bytes s, well formed, became s′ with the outcome o of what was handed in: they are well formed again and hold its machine; only
--- fields of the state are written; what the machine uses neither before nor after stays, and what is behind the state; a refusal leaves all.
+-- fields of the state are written; what the machine uses neither before nor after stays, and the link of who lived before to its parent, and what
+-- is behind the state; a refusal leaves all.
 pub record After (s s′ : List ℕ) (x : Option Step) (o : Outcome) : Type 0 where
   pub wellFormed : WellFormed s′
   pub machine : abs s′ ≡ o .after
@@ -64,6 +63,7 @@ pub record After (s s′ : List ℕ) (x : Option Step) (o : Outcome) : Type 0 wh
   pub writable : Writable fields.layout1 (fields.mostOf (sizesOf s)) (fields.counts (sizesOf s)) stores
   pub bytes : s′ ≡ writesTo s stores
   pub spared : (f i : ℕ) → usedOf s f i ≡ 0 → usedOf s′ f i ≡ 0 → memoryOf s′ f i ≡ memoryOf s f i
+  pub settled : (i : ℕ) → 0 < memoryOf s fields.pid i → memoryOf s′ fields.parentAt i ≡ memoryOf s fields.parentAt i
   pub long : length s′ ≡ length s
   pub behind : drop (totalOf s) s′ ≡ drop (totalOf s) s
   pub left : (n : ℕ) → o .reply ≡ refused n → s′ ≡ leftOf s n x
@@ -94,6 +94,12 @@ abbrev Spared : machine.Sizes → machine.Sizes → List ℕ → List ℕ → Ty
 Spared v v′ s s′ =
     (f i : ℕ) → usedAt v s f i ≡ 0 → usedAt v′ s′ f i ≡ 0 → mem fields.layout1 (fields.counts v′) s′ f i ≡ mem fields.layout1 (fields.counts v) s f i
 
+abbrev SettledAt : machine.Sizes → machine.Sizes → List ℕ → List ℕ → Type 0
+SettledAt v v′ s s′ =
+    (i : ℕ)
+    → 0 < mem fields.layout1 (fields.counts v) s fields.pid i
+    → mem fields.layout1 (fields.counts v′) s′ fields.parentAt i ≡ mem fields.layout1 (fields.counts v) s fields.parentAt i
+
 -- What a step on a well-formed state leaves.
 pub well-after
     : {z : Sizes} {s s′ m m′ : List ℕ} {x : Option Step} {r : Reply} → Well z s → Taken z s s′ x m m′ r → Well z s′
@@ -118,6 +124,8 @@ after-of {z} {s} {s′} {m} {m′} {x} {r} w t =
       bytes =
           t .spares .bytes ∙ ap (λ (v : machine.Sizes). writes fields.layout1 (fields.counts v) s (t .spares .stores)) (sym e);
       spared = subst₂ (λ (v v′ : machine.Sizes). Spared v v′ s s′) (sym e) (sym (holds-sizes (t .holds))) (spares-unused (w .holds) (t .spares));
+      settled =
+          subst₂ (λ (v v′ : machine.Sizes). SettledAt v v′ s s′) (sym e) (sym (holds-sizes (t .holds))) (t .spares .settled .stays);
       long = spares-length (t .spares);
       behind =
           subst (λ (v : machine.Sizes). drop (total fields.layout1 (fields.counts v)) s′ ≡ drop (total fields.layout1 (fields.counts v)) s)

@@ -167,9 +167,9 @@ never-one s (x ∷ xs) (y ∷ ys) s′ f (e, c) =
       never-one (y .state) xs ys s′ (a .state .wellFormed) c,
     )
 
--- Demand 3 and more, of a course from what `make` wrote: the answers, with their
--- words and messages, are those of the history, number 1 never comes, and the lent state holds each living process in the place that the history tells. The claim about the list is
--- `Demand3`, whose parts speak of every list, so of every point of this one.
+-- Demand 3 and more, of a course from what `make` wrote: the answers, with their words and messages, are those of the history, number 1 never
+-- comes, and the lent state holds each living process in the place that the history tells. The claim about the list is `Demand3`, whose parts speak
+-- of every list, so of every point of this one.
 pub record Demanded (p r q k c hz : ℕ) (xs : List Handed) (ys : List Back) (s′ : List ℕ) : Type 0 where
   pub follows : Follows (fresh (sizesFor p r q k c hz)) xs ys s′
   pub never1 : Each (λ (y : Back). y .number ≡ 1 → ⊥) ys

@@ -16,8 +16,8 @@ use Rattle.timers.specs.Out.{none-absent}
 use Rattle.timers.specs.Insert.{insertStores, insertMem, linkMem, headField, queuedIn, InsertAsks, Inserted, Entered}
 use Rattle.timers.specs.Linked.{spot-queued}
 use Rattle.holds.specs.Holds.{Holds}
-use Rattle.holds.specs.Use.{Between, EachInUse}
-use Rattle.holds.specs.Touched.{Spares, spares-fewer}
+use Rattle.holds.specs.Use.{SameKin, kin-at, Between, EachInUse}
+use Rattle.holds.specs.Touched.{Spares, settled-kin, spares-fewer}
 use Rattle.timer.specs.Only.{Owing, owing-after, aside, Only, only-none, only-set}
 use Rattle.timer.specs.Aside.{holds-aside}
 use Rattle.timer.specs.Use.{insert-uses, insert-in-use}
@@ -51,6 +51,7 @@ pub record QueuedAt (z : Sizes) (s s′ : List ℕ) (t d : ℕ) : Type 0 where
   pub memory : memIn z s′ ≡ queueMem z (memIn z s) t d
   pub machine : machineIn z s′ ≡ withQueued (insert (record { timer = t; deadline = d }) (machineIn z s .queued)) (machineIn z s)
   pub spares : Spares z s s′
+  pub kin : SameKin (memIn z s) (memIn z s′)
   -- no more is used than before, and in a memory in which timer t is queued
   pub uses : (k : Memory) → 0 < k fields.isQueued t → Between z k (memIn z s′) (memIn z s)
 
@@ -118,7 +119,9 @@ queued {z} {s} {s′} {t} {d} a r =
         inUse =
             subst (λ (k : Memory). EachInUse z m k (queueStores z m t d)) (sym e)
             (insert-in-use z m (spotIn z m d) t d (spot-queued z m d (a .owing .holds .keeps .timed .queued)));
+        settled = settled-kin (kin-at e (record { pids = refl; parents = refl }));
       };
+      kin = kin-at e (record { pids = refl; parents = refl });
       uses = λ k h. subst (λ (x : Memory). Between z k x m) (sym e) (insert-uses z m (spotIn z m d) t d k h);
     }
 

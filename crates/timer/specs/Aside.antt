@@ -69,6 +69,8 @@ placed-over {z} {m} {n} m′ p =
       locks = p .locks;
       waiting = λ q. each-map (WaitsHere m q) (WaitsHere (over m m′) q) (waiterList z m q) (λ i w. record { state = w .state; kind = w .kind; object = w .object }) (p .waiting q);
       asleep = p .asleep ∙ ap (λ (k : ℕ). n + k) (sym (asleep-over z m m′));
+      unlinked = p .unlinked;
+      blanks = p .blanks;
     }
 
 keeps-over : {z : machine.Sizes} {m : Memory} {n : ℕ} (m′ : Memory) → Keeps z m n → Timed z (over m m′) → Keeps z (over m m′) n
@@ -94,6 +96,7 @@ keeps-over {z} {m} {n} m′ k t =
         rising = k .ages .rising;
         living = k .ages .living;
         parentAt = k .ages .parentAt;
+        orphan = k .ages .orphan;
       };
       index = record {
         records = k .index .records;

@@ -18,8 +18,8 @@ use Rattle.timers.specs.Remove.{removeStores, removeMem, headOut, linksOut, Rem
 use Rattle.timers.specs.Seek.{beforeIn}
 use Rattle.timers.specs.Linked.{before-queued}
 use Rattle.holds.specs.Holds.{Holds}
-use Rattle.holds.specs.Use.{Fewer, EachInUse}
-use Rattle.holds.specs.Touched.{Spares}
+use Rattle.holds.specs.Use.{kin-at, Fewer, EachInUse}
+use Rattle.holds.specs.Touched.{Spares, settled-kin}
 use Rattle.timer.specs.Only.{Owing, owing-after, aside, Only, only-none, only-set}
 use Rattle.timer.specs.Aside.{holds-aside}
 use Rattle.timer.specs.Use.{remove-fewer, remove-in-use}
@@ -109,6 +109,7 @@ deleted {z} {s} {s′} {t} a r =
         inUse =
             subst (λ (k : Memory). EachInUse z m k (delStores z m t)) (sym e)
             (remove-in-use z m (m fields.isQueued t) (beforeIn z m t) t refl (before-queued z m t (a .owing .holds .keeps .timed .queued)));
+        settled = settled-kin (kin-at e (record { pids = refl; parents = refl }));
       };
       fewer = subst (Fewer z m) (sym e) (remove-fewer z m (m fields.isQueued t) (beforeIn z m t) t);
     }

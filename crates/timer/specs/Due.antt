@@ -18,7 +18,7 @@ use Rattle.timers.specs.Entries.{entries}
 use Rattle.timers.specs.Insert.{queuedIn, queued-machine}
 use Rattle.exact.specs.Parts.{walk-none}
 use Rattle.holds.specs.Holds.{Holds}
-use Rattle.holds.specs.Use.{Fewer}
+use Rattle.holds.specs.Use.{kin-same, Fewer}
 use Rattle.holds.specs.Touched.{Spares, spares-none}
 use Rattle.timer.specs.Only.{Owing}
 use Rattle.timer.specs.Del.{machineIn, delStores, delMem, Deleted}
@@ -77,7 +77,7 @@ nothing-due {z} {s} {reading} o l =
       on = λ t e. absurd (omega (arith, e));
       deadlines = refl;
       spares = spares-none;
-      fewer = record { fewer = λ f i e. e };
+      fewer = record { fewer = λ f i e. e; kin = kin-same refl };
     }
 
 pub popped-none : {z : Sizes} {s : List ℕ} {reading link : ℕ} → Owing z s → link ≡ memIn z s fields.timerHead 0 → link ≡ 0 → PoppedDue z s s reading 0

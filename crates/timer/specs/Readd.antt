@@ -19,7 +19,7 @@ use Rattle.state.specs.Places.{sizesIn, memIn, Wrote}
 use Rattle.state.specs.declared.Sizes.{Sizes}
 use Rattle.timers.specs.Find.{timersIn}
 use Rattle.holds.specs.Holds.{Holds}
-use Rattle.holds.specs.Use.{Between}
+use Rattle.holds.specs.Use.{SameKin, kin-same, Between}
 use Rattle.holds.specs.Touched.{Spares, spares-none}
 use Rattle.timer.specs.Only.{Owing}
 use Rattle.timer.specs.Del.{machineIn}
@@ -53,6 +53,7 @@ pub record Readded (z : Sizes) (s s′ : List ℕ) (t : ℕ) : Type 0 where
   pub memory : memIn z s′ ≡ readdMem z (memIn z s) t (periodIn z (memIn z s) t)
   pub machine : machineIn z s′ ≡ readd (record { timer = t; deadline = memIn z s fields.deadline t }) (machineIn z s)
   pub spares : Spares z s s′
+  pub kin : SameKin (memIn z s) (memIn z s′)
   -- no more is used than before, and in a memory in which it is queued
   pub uses : (k : Memory) → 0 < k fields.isQueued t → Between z k (memIn z s′) (memIn z s)
 
@@ -82,6 +83,7 @@ stays z s t o e =
       memory = rw e;
       machine = rw (period-of z (memIn z s) t, e);
       spares = spares-none;
+      kin = kin-same refl;
       uses = λ k h. record { between = λ f i a b. b };
     }
 
@@ -113,6 +115,7 @@ returns-at z s s′ t (suc p) e ne q =
       memory = rw e (q .memory);
       machine = rw (period-of z (memIn z s) t, e, ne-eqb (suc p) 0 ne) (q .machine);
       spares = q .spares;
+      kin = q .kin;
       uses = q .uses;
     }
 

@@ -18,7 +18,7 @@ use Rattle.holds.specs.Fewer.{zeros-alter, fewer-by}
 
 -- A removal takes from what is used.
 pub remove-fewer : (z : Sizes) (m : Memory) (flag p t : ℕ) → Fewer z m (removeMem m flag p t)
-remove-fewer z m flag p t = fewer-by (λ i e. e) (zeros-alter (m fields.isQueued) t) (λ i e. e) (λ c. refl)
+remove-fewer z m flag p t = fewer-by refl refl refl (zeros-alter (m fields.isQueued) t) (λ i e. e) (λ c. refl)
 
 -- An insertion adds no more to it than what is used where the timer is queued.
 by-test
@@ -37,10 +37,11 @@ unfolding usedBy
 insert-uses z m p t d k h =
     record {
       between = λ f i.
-          by-test (fromTo fields.pid fields.resumeObject f) (λ a b. b)
+          by-test (eqb f fields.parentAt) (λ a b. b)
+          (by-test (fromTo fields.pid fields.resumeObject f) (λ a b. b)
           (by-test (eqb f fields.nameByte) (λ a b. b)
           (by-test (eqb f fields.period || eqb f fields.timerRendez) (λ a b. b)
-          (by-test (fromTo fields.deadline fields.isQueued f) (λ a b. go i a b (eqb t i) refl) (λ a b. b))));
+          (by-test (fromTo fields.deadline fields.isQueued f) (λ a b. go i a b (eqb t i) refl) (λ a b. b)))));
     }
   where
     go : (i : ℕ) → k fields.isQueued i ≡ 0 → m fields.isQueued i ≡ 0 → (b : Bool) → eqb t i ≡ b → (if b then 1 else m fields.isQueued i) ≡ 0

@@ -84,7 +84,7 @@ clear-start {z} {s} {i} {k} a e =
       memory = rw d;
       changed = changed-none (holds-bounds (a .holds)) (a .holds .keeps .cells) (a .used);
       inUse = rw d none;
-      fewer = fewer-same (same-use refl refl refl refl);
+      fewer = fewer-same (same-use refl refl refl refl refl refl);
     }
 
 pub clear-take : {z : Sizes} {s₀ s : List ℕ} {i k : ℕ} → Clearing z s₀ s i k → 0 < k → TakeAsks z s i

@@ -13,7 +13,7 @@ use Rattle.state.specs.Fields as fields
 use Rattle.state.specs.WellFormed.{isFull}
 use Rattle.state.specs.declared.Sizes.{Sizes}
 use Rattle.exact.specs.Resumes.{set-test}
-use Rattle.holds.specs.Use.{usedBy, EachInUse, none, more, before, after, in-use-runs, Fewer}
+use Rattle.holds.specs.Use.{SameKin, usedBy, EachInUse, none, more, before, after, in-use-runs, Fewer}
 use Rattle.holds.specs.Fewer.{zeros-alter, fewer-by}
 use Rattle.free.specs.Record.{wordOf, bitOf}
 use Rattle.free.specs.Cell.{aboveOf, aboveBit}
@@ -81,4 +81,9 @@ module _ {z : Sizes} {m : Memory} (n i c : ℕ) where
 
   pub take-fewer : Fewer z m (takeMem n m i c)
   unfolding popStores unlinkStores headStores
-  take-fewer = fewer-by (λ j e. e) (λ j e. e) (zeros-alter (m fields.owner) c) (λ j. refl)
+  take-fewer = fewer-by refl refl refl (λ j e. e) (zeros-alter (m fields.owner) c) (λ j. refl)
+
+-- An exit that is queued leaves the records of all.
+pub add-kin : (n : ℕ) (m : Memory) (i c pid : ℕ) (bs : List ℕ) → SameKin m (addMem n m i c pid bs)
+unfolding cellStores headStores pushStores
+add-kin n m i c pid bs = record { pids = refl; parents = refl }

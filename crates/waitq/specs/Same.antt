@@ -73,7 +73,7 @@ same-keeps {z} {m} {m′} {n} e k c x a =
           (e fields.hz refl)
           (k .header);
       placed =
-          placed-same n (e fields.pid refl) (e fields.stateOf refl) (e fields.resumeKind refl) (e fields.resumeObject refl) (e fields.up refl)
+          placed-same n (e fields.pid refl) (e fields.stateOf refl) (e fields.resumeKind refl) (e fields.resumeObject refl) (e fields.resumeCondition refl) (e fields.up refl)
           (e fields.next refl)
           (e fields.runHead refl)
           (e fields.runTail refl)

@@ -132,7 +132,7 @@ pub fn wait_state(s: &[u8], z: Sizes, i: Index) -> WaitState
     ensures { λ r. ⌜ WaitIs z (now (s .entry)) i r ⌝ }
 {
     let kind = state::get8(s, z, state::PROCESS, state::RESUME_KIND, i);
-    if kind == 4 {
+    if kind == state::WAIT {
         return WaitState::InUse;
     }
     let nexits = state::get8(s, z, state::PROCESS, state::NEXITS, i);

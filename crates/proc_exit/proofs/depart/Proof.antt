@@ -1,5 +1,6 @@
 -- `proc_exit::depart` meets its contract: each need by its law.
 use Rattle.proc_exit.specs.Depart.{depart-load, depart-tell, departed-alone, departed-told}
+use native.Mathlib.Omega.{arith}
 use borrow.Author.Needs.{needs}
 use Rattle.proc_exit.proofs.depart.Statement.{statement}
 use Rattle.proc_exit.proofs.depart.Tie as tie
@@ -17,7 +18,7 @@ tell-parent-requires : tie.Need-tell-parent-requires
 tell-parent-requires c κs = search depart-tell
 
 same-length : tie.Need-same-length
-same-length c = search needs
+same-length c = omega (arith, c .before .before .tell-parent .kept .0, c .before .before .before .before .before .before .before .leave .kept .0)
 
 returns : tie.Need-returns
 returns c = search departed-told

@@ -44,15 +44,29 @@ call-ok-requires c κs = search needs
 returns-5 : tie.Need-returns-5
 returns-5 c = λ h. failed (c .before .call-ok .result) (c .before .call-ok .ensures) (c .if5 .taken) (h .call)
 
+blank-ok-requires : tie.Need-blank-ok-requires
+blank-ok-requires c κs = search needs
+
 returns-6 : tie.Need-returns-6
-returns-6 c =
+returns-6 c = λ h. failed (c .before .blank-ok .result) (c .before .blank-ok .ensures) (c .if6 .taken) (h .blank)
+
+orphan-ok-requires : tie.Need-orphan-ok-requires
+orphan-ok-requires c κs = search needs
+
+returns-7 : tie.Need-returns-7
+returns-7 c = λ h. failed (c .before .orphan-ok .result) (c .before .orphan-ok .ensures) (c .if7 .taken) (h .orphan)
+
+returns-8 : tie.Need-returns-8
+returns-8 c =
     record {
       state = omega arith;
       below = omega arith;
       parent = omega arith;
       quantum =
-          let q = passed (c .before .before .before .near .result) (c .before .before .before .near .ensures) (c .before .before .if4 .left) in omega arith;
-      call = passed (c .before .call-ok .result) (c .before .call-ok .ensures) (c .if5 .left);
+          let q = passed (c .before .before .before .before .before .before .before .near .result) (c .before .before .before .before .before .before .before .near .ensures) (c .before .before .before .before .before .before .if4 .left) in omega arith;
+      call = passed (c .before .before .before .before .before .call-ok .result) (c .before .before .before .before .before .call-ok .ensures) (c .before .before .before .before .if5 .left);
+      blank = passed (c .before .before .before .blank-ok .result) (c .before .before .before .blank-ok .ensures) (c .before .before .if6 .left);
+      orphan = passed (c .before .orphan-ok .result) (c .before .orphan-ok .ensures) (c .if7 .left);
     }
 
 pub used-ok-spec : {M : Type 1} → statement M
@@ -72,4 +86,8 @@ used-ok-spec =
     returns-4
     call-ok-requires
     returns-5
-    returns-6)
+    blank-ok-requires
+    returns-6
+    orphan-ok-requires
+    returns-7
+    returns-8)
