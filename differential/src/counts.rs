@@ -7,8 +7,10 @@ pub const LISTS: &str = "lists";
 pub const STEPS: &str = "steps";
 pub const STEP_CALLS: &str = "calls of step";
 pub const READ_ONLY_CALLS: &str = "refused on read-only memory";
-pub const LARGE_CALLS: &str = "calls of step on states over 300,000 bytes";
-pub const COMPARED: &str = "comparisons of everything";
+pub const LARGE_STEPS: &str = "steps in states over 300,000 bytes";
+pub const COMPARED: &str = "comparisons of all places and queues";
+pub const UNUSED: &str = "of what is unused";
+pub const RUN_SINGLY: &str = "calls of run with one step";
 pub const RUN_CALLS: &str = "calls of run";
 pub const RUN_STEPS: &str = "steps taken by run";
 

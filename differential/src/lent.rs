@@ -4,6 +4,7 @@
 use crate::expected::{Expected, NO_MEMORY};
 use crate::library::{self, Words};
 use crate::pages::Pages;
+use crate::unused;
 use oracle::random::Random;
 use oracle::sizes;
 use outside::layout::{NEXT_PID, Sizes, locate, total};
@@ -16,6 +17,8 @@ pub struct Lent {
     from: usize,
     /// How many bytes are lent.
     length: usize,
+    /// The bytes behind the state.
+    must_be_behind: Vec<u8>,
 }
 
 pub fn layout_sizes(s: &sizes::Sizes) -> Sizes {
@@ -33,14 +36,24 @@ impl Lent {
         }
         let (from, behind) = (random.below(9) as usize, random.pick(&[0, 1, 64, 200]));
         let length = total(z) + behind;
-        let mut lent = Lent { z, memory: Pages::new(from + length + 16), from, length };
-        lent.memory[..from].fill(BEFORE_IT);
-        let behind_it = lent.behind();
-        lent.memory[behind_it].iter_mut().zip(pattern_behind()).for_each(|(at, byte)| *at = byte);
+        let must_be_behind: Vec<u8> = (0..behind + 16).map(|_| random.bits() as u8).collect();
+        let mut memory = Pages::new(from + length + 16);
+        memory[..from].fill(BEFORE_IT);
+        memory[from + total(z)..].copy_from_slice(&must_be_behind);
+        let mut lent = Lent { z, memory, from, length, must_be_behind };
         match library::make(lent.bytes(), numbers, s.hz) {
             0 => lent.around().map(|()| lent),
             number => Err(format!("make says {number}")),
         }
+    }
+
+    /// Fill what the machine has no use for, by the seed.
+    pub fn fill_unused(&mut self, seed: u64) -> Result<(), String> {
+        let z = self.z;
+        unused::fill(self.bytes(), z, &mut Random::new(seed));
+        let wrong = "check finds the fresh state with unused bytes filled not well formed";
+        self.around()?;
+        self.is_formed().then_some(()).ok_or(wrong.to_string())
     }
 
     /// What is lent.
@@ -57,45 +70,51 @@ impl Lent {
     }
 
     /// Call `step`: it must answer what is expected, and write nothing else.
-    /// Where it must be refused the memory is read-only.
     pub fn step(
         &mut self,
         bytes: &[u8],
         message: &mut Message,
         expected: &Expected,
     ) -> Result<(), String> {
-        if uses_up_a_pid(bytes, expected.words.number) {
-            return self.step_that_uses_up_a_pid(bytes, message, expected);
-        }
-        let lent = self.from..self.from + self.length;
-        let (words, written) = match is_read_only(bytes, expected) {
-            true => self
-                .memory
-                .read_only(|memory| library::step(&mut memory[lent], bytes, message.bytes())),
-            false => (library::step(&mut self.memory[lent], bytes, message.bytes()), None),
-        };
+        let call = |state: &mut [u8]| library::step(state, bytes, message.bytes());
+        let (words, left) = self.watched(bytes, expected, call);
         answers(words, message, expected)?;
-        match written {
-            Some(at) => Err(format!("refused, and writes {}", self.locate(at))),
-            None => self.around(),
-        }
+        left
+    }
+
+    /// Have a call take a step, and say what it did to the memory that it must
+    /// not.  Where the step must be refused the memory is read-only.
+    pub fn watched<T>(
+        &mut self,
+        bytes: &[u8],
+        expected: &Expected,
+        call: impl FnOnce(&mut [u8]) -> T,
+    ) -> (T, Result<(), String>) {
+        let lent = self.from..self.from + self.length;
+        let (value, left) = if uses_up_a_pid(bytes, expected.words.number) {
+            self.that_uses_up_a_pid(call)
+        } else if is_read_only(bytes, expected) {
+            let (value, written) = self.memory.read_only(|memory| call(&mut memory[lent]));
+            let wrong = |at| Err(format!("refused, and writes {}", self.locate(at)));
+            (value, written.map_or(Ok(()), wrong))
+        } else {
+            (call(&mut self.memory[lent]), Ok(()))
+        };
+        (value, left.and_then(|()| self.around()))
     }
 
     /// The refusal that changes the next pid, and no other byte.
-    fn step_that_uses_up_a_pid(
+    fn that_uses_up_a_pid<T>(
         &mut self,
-        bytes: &[u8],
-        message: &mut Message,
-        expected: &Expected,
-    ) -> Result<(), String> {
+        call: impl FnOnce(&mut [u8]) -> T,
+    ) -> (T, Result<(), String>) {
         let mut twin = self.state().to_vec();
         let next = NEXT_PID.get(&twin, self.z, 0) + 1;
         NEXT_PID.set(&mut twin, self.z, 0, next);
-        let words = library::step(self.bytes(), bytes, message.bytes());
-        answers(words, message, expected)?;
+        let value = call(self.bytes());
         let differs = self.state().iter().zip(&twin).position(|(is, must)| is != must);
-        differs.map_or(Ok(()), |at| Err(format!("refused, and changes {}", locate(self.z, at))))?;
-        self.around()
+        let wrong = |at| Err(format!("refused, and changes {}", locate(self.z, at)));
+        (value, differs.map_or(Ok(()), wrong))
     }
 
     /// Call `run`: how many steps it says it took.
@@ -119,18 +138,13 @@ impl Lent {
     /// The bytes around the state are as they were.
     fn around(&self) -> Result<(), String> {
         let before = self.memory[..self.from].iter().all(|&byte| byte == BEFORE_IT);
-        let behind = self.memory[self.behind()].iter().copied();
-        let same = before && behind.zip(pattern_behind()).all(|(is, must)| is == must);
+        let same = before && self.memory[self.behind()] == self.must_be_behind;
         same.then_some(()).ok_or("bytes before or behind the state are changed".to_string())
     }
 }
 
-/// What stands before a state, and behind it.
+/// What stands before a state.
 const BEFORE_IT: u8 = 0xa5;
-
-fn pattern_behind() -> impl Iterator<Item = u8> {
-    (0..=u8::MAX).map(|at| at ^ 0x5c)
-}
 
 /// A call has answered what is expected.
 fn answers(words: Words, message: &Message, expected: &Expected) -> Result<(), String> {

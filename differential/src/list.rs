@@ -1,11 +1,10 @@
 //! One list, on r9's own code and by `step` and `run`.
 //!
-//! What is compared when: after every step that `step` takes, everything
-//! (`view`), in a state of any size; after steps that `run` takes, their
-//! answers, and everything after the last.  In a state up to 300,000 bytes
-//! `step` takes every step.  In a larger one, which `step` checks whole at each
-//! call, it takes every step if asked to, else the last `SINGLY` steps of a list
-//! and some before, and `run` the others.
+//! Every step is taken by `step`, or by `run` alone, and after each who is where
+//! is compared (`view`), in a state of any size; in one that is not large, with
+//! any bytes where the machine has no use for them, that these stay too
+//! (`unused`).  At the end `run` takes the whole list again on a state of its
+//! own, some steps at a time.
 
 use crate::bytes;
 use crate::counts::{self, Counts};
@@ -15,6 +14,7 @@ use crate::many;
 use crate::pieces;
 use crate::plan::{self, Plan};
 use crate::steps;
+use crate::unused::Before;
 use crate::view::View;
 use oracle::generate::Generator;
 use oracle::perform::Answer;
@@ -22,8 +22,8 @@ use oracle::random::Random;
 use oracle::sizes::Sizes;
 use outside::layout::LAST_NOW;
 
-/// So many steps of a list in a large state, the last ones, are taken by `step`.
-const SINGLY: u64 = 200;
+/// Of a hundred steps so many are taken by `run`.
+const BY_RUN: u64 = 20;
 
 /// A step that r9's code has taken, and what it answered.
 pub struct Taken {
@@ -37,6 +37,9 @@ struct List {
     sizes: Sizes,
     generator: Generator,
     lent: Lent,
+    /// The state before a step, and the seed of its unused bytes; none of a
+    /// large one.
+    before: Option<(Before, u64)>,
     taken: Vec<Taken>,
     /// Where it is not 0: at 1 an exit is due, above it so many steps later.
     exit_in: usize,
@@ -46,81 +49,76 @@ struct List {
 /// At which step of the list they differ, and how.
 type Difference = (usize, String);
 
-/// Run list number `index`, in a large state too by `step` where `is_single`:
-/// the counts, or the list and how it differs.
-pub fn run(index: u64, seed: u64, is_single: bool) -> Result<Counts, Vec<u8>> {
-    let Plan { sizes, opening, count, is_large } = Plan::of(index, seed);
+/// Run list number `index` of those in large states, or of the others: the
+/// counts, or the list and how it differs.
+pub fn run(index: u64, seed: u64, is_large: bool) -> Result<Counts, Vec<u8>> {
+    let Plan { sizes, opening, count } = Plan::of(index, seed, is_large);
     let mut random = Random::new(seed ^ 0x5eed);
     let mut generator = Generator::new(sizes, seed, count, 40_000 + 2 * count);
     generator.plan(opening);
-    let lent = Lent::fresh(&sizes, &mut random)?;
+    let mut lent = Lent::fresh(&sizes, &mut random)?;
+    let before = if lent.state().len() > plan::LARGE {
+        None
+    } else {
+        let filled = random.bits();
+        lent.fill_unused(filled)?;
+        Some((Before::new(lent.state(), lent.z), filled))
+    };
     let (taken, counts) = (Vec::new(), Counts::default());
-    let mut list = List { random, sizes, generator, lent, taken, exit_in: 0, counts };
-    match list.all(is_large, is_large && !is_single) {
+    let mut list = List { random, sizes, generator, lent, before, taken, exit_in: 0, counts };
+    match list.all() {
         Ok(()) => Ok(list.counts),
         Err((at, why)) => Err(list.report(at, &why)),
     }
 }
 
 impl List {
-    fn all(&mut self, is_large: bool, has_runs: bool) -> Result<(), Difference> {
+    fn all(&mut self) -> Result<(), Difference> {
         while self.generator.left() > 0 {
-            if has_runs { self.in_large_state()? } else { self.by_step()? }
-        }
-        if is_large {
-            let calls = self.counts.get(counts::STEP_CALLS);
-            self.counts.add(counts::LARGE_CALLS, calls);
+            self.next_steps()?;
         }
         self.again()?;
         self.counts.add(many::DONE, 1);
         self.counts.add(counts::LISTS, 1);
         let steps = self.taken.len() as u64;
         self.counts.add(counts::STEPS, steps);
+        if self.lent.state().len() > plan::LARGE {
+            self.counts.add(counts::LARGE_STEPS, steps);
+        }
         plan::names(&self.sizes).iter().for_each(|name| self.counts.add(name, steps));
         Ok(())
     }
 
-    /// One step of the generator, and what is put in beside it, by `step`: steps
-    /// that are refused, which leave what was there to be compared.
-    fn by_step(&mut self) -> Result<(), Difference> {
+    /// One step of the generator, and what is put in beside it: bytes that are
+    /// no step, which leave what was there to be compared.
+    fn next_steps(&mut self) -> Result<(), Difference> {
         let from = self.taken.len();
         self.take()?;
         for at in from..self.taken.len() {
             if self.random.chance(2) {
                 self.with_short_buffer(at)?;
             }
-            self.call(at)?;
+            if self.random.chance(BY_RUN) {
+                self.by_run(at)?
+            } else {
+                self.by_step(at)?
+            }
+            self.compare(at)?;
+            self.compare_unused(at)?;
         }
-        self.compare()
-    }
-
-    /// Some steps by `run`, or a few by `step`.
-    fn in_large_state(&mut self) -> Result<(), Difference> {
-        let before_the_last = self.generator.left().saturating_sub(SINGLY);
-        let count = self.random.pick(&[1, 3, 20, 100, 300, 3_000]).min(before_the_last);
-        match count {
-            ..=20 => (0..count.max(1)).try_for_each(|_| self.by_step()),
-            _ => self.by_run(count),
-        }
-    }
-
-    fn by_run(&mut self, count: u64) -> Result<(), Difference> {
-        let from = self.taken.len();
-        for _ in 0..count {
-            self.take()?;
-        }
-        let calls = pieces::take(&mut self.lent, &self.taken[from..], &mut self.random);
-        let calls = calls.map_err(|(at, why)| (from + at, why))?;
-        self.count_run(calls, self.taken.len() - from);
-        self.compare()
+        Ok(())
     }
 
     /// The same steps by `run` on a fresh state: the same answers and bytes.
     fn again(&mut self) -> Result<(), Difference> {
         let last = self.taken.len();
         let mut lent = Lent::fresh(&self.sizes, &mut self.random).map_err(|why| (0, why))?;
+        if let Some((_, filled)) = self.before {
+            lent.fill_unused(filled).map_err(|why| (0, why))?;
+        }
         let calls = pieces::take(&mut lent, &self.taken, &mut self.random)?;
-        self.count_run(calls, last);
+        self.counts.add(counts::RUN_CALLS, calls);
+        self.counts.add(counts::RUN_STEPS, last as u64);
         let wrong = if lent.state() != self.lent.state() {
             "run leaves another state than step"
         } else if !self.lent.is_formed() {
@@ -129,11 +127,6 @@ impl List {
             return Ok(());
         };
         Err((last, wrong.to_string()))
-    }
-
-    fn count_run(&mut self, calls: u64, steps: usize) {
-        self.counts.add(counts::RUN_CALLS, calls);
-        self.counts.add(counts::RUN_STEPS, steps as u64);
     }
 
     /// r9's code takes a step; beside it sometimes comes one that is none.
@@ -200,12 +193,23 @@ impl List {
         self.push(format!("# bytes {bytes:02x?}").into_bytes(), bytes, Expected::from(answer));
     }
 
-    fn call(&mut self, at: usize) -> Result<(), Difference> {
+    fn by_step(&mut self, at: usize) -> Result<(), Difference> {
+        self.count_call(counts::STEP_CALLS, at);
         let Taken { bytes, expected, .. } = &self.taken[at];
         let mut message = Message::any(&mut self.random);
-        self.counts.add(counts::STEP_CALLS, 1);
-        self.counts.add(counts::READ_ONLY_CALLS, u64::from(lent::is_read_only(bytes, expected)));
         self.lent.step(bytes, &mut message, expected).map_err(|why| (at, why))
+    }
+
+    fn by_run(&mut self, at: usize) -> Result<(), Difference> {
+        self.count_call(counts::RUN_SINGLY, at);
+        let outcome = pieces::take_one(&mut self.lent, &self.taken[at], &mut self.random);
+        outcome.map_err(|why| (at, why))
+    }
+
+    fn count_call(&mut self, what: &str, at: usize) {
+        let Taken { bytes, expected, .. } = &self.taken[at];
+        self.counts.add(what, 1);
+        self.counts.add(counts::READ_ONLY_CALLS, u64::from(lent::is_read_only(bytes, expected)));
     }
 
     /// The step with a message buffer under 127 bytes.
@@ -218,10 +222,21 @@ impl List {
         outcome.map_err(|why| (at, format!("with a short message buffer: {why}")))
     }
 
-    fn compare(&mut self) -> Result<(), Difference> {
+    fn compare(&mut self, at: usize) -> Result<(), Difference> {
         self.counts.add(counts::COMPARED, 1);
         let view = View { bytes: self.lent.state(), z: self.lent.z };
-        view.compare().map_err(|why| (self.taken.len() - 1, format!("after it: {why}")))
+        view.compare().map_err(|why| (at, format!("after it: {why}")))
+    }
+
+    /// A step that may write has left what the machine has no use for.
+    fn compare_unused(&mut self, at: usize) -> Result<(), Difference> {
+        let Taken { bytes, expected, .. } = &self.taken[at];
+        let Some((before, _)) = &mut self.before else { return Ok(()) };
+        if lent::is_read_only(bytes, expected) {
+            return Ok(());
+        }
+        self.counts.add(counts::UNUSED, 1);
+        before.step(self.lent.state()).map_err(|why| (at, format!("after it: {why}")))
     }
 
     /// The list as lines up to the difference, and the difference.

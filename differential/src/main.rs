@@ -18,6 +18,7 @@ mod plan;
 mod self_test;
 mod steps;
 mod subject;
+mod unused;
 mod view;
 
 use counts::Counts;
@@ -26,8 +27,8 @@ use std::io::{self, Write};
 use std::process::exit;
 use std::time::Instant;
 
-const USAGE: &str = "usage: differential [lists | singly | damaged] [--steps N] [--seed S], or differential bench | self-test";
-const STEPS: u64 = 2_500_000;
+const USAGE: &str = "usage: differential [lists | damaged] [--steps N] [--seed S], or differential bench | self-test";
+const STEPS: u64 = 1_500_000;
 const CALLS: u64 = 2_000_000;
 const SEED: u64 = 1;
 /// From so many steps on every answer and number must come.
@@ -39,27 +40,23 @@ fn main() {
     let args: Vec<&str> = args.iter().map(String::as_str).collect();
     match args.as_slice() {
         ["list", index, seed] => part(list::run(number(index), number(seed), false)),
-        ["single", index, seed] => part(list::run(number(index), number(seed), true)),
+        ["large", index, seed] => part(list::run(number(index), number(seed), true)),
         ["damage", count, seed] => part(damaged::run(number(count), number(seed))),
         ["measure", family, size] => part(bench::measure(number(family), number(size))),
         ["bench"] => bench::run().unwrap_or_else(|why| fail(1, &why)),
         ["self-test"] => self_test(),
         [] => {
             self_test();
-            lists("list", STEPS, SEED);
+            lists(STEPS, SEED);
             damages(CALLS, SEED);
         }
         ["damaged", options @ ..] => {
             let (steps, seed) = amounts(options, CALLS);
             damages(steps, seed);
         }
-        ["singly", options @ ..] => {
-            let (steps, seed) = amounts(options, STEPS);
-            lists("single", steps, seed);
-        }
         ["lists", options @ ..] | options => {
             let (steps, seed) = amounts(options, STEPS);
-            lists("list", steps, seed);
+            lists(steps, seed);
         }
     }
 }
@@ -106,9 +103,9 @@ fn self_test() {
     }
 }
 
-fn lists(what: &'static str, steps: u64, seed: u64) {
+fn lists(steps: u64, seed: u64) {
     let start = Instant::now();
-    let counts = many::run(many::lists(what, steps, seed)).unwrap_or_else(|why| fail(1, &why));
+    let counts = many::run(many::lists(steps, seed)).unwrap_or_else(|why| fail(1, &why));
     print!("{}", counts.answers());
     for names in plan::all_names() {
         let steps: Vec<_> =
@@ -117,15 +114,17 @@ fn lists(what: &'static str, steps: u64, seed: u64) {
     }
     let of = |what: &str| format!("{} {what}", counts.get(what));
     println!(
-        "lists: {}, {}, {} ({}, {}), {}, {}, {}; seed {seed}, {:.1} s: no difference",
+        "lists: {}, {} ({}): {}, {}, {}, {}, {}; again {}, {}; seed {seed}, {:.1} s: no difference",
         of(counts::LISTS),
         of(counts::STEPS),
+        of(counts::LARGE_STEPS),
         of(counts::STEP_CALLS),
+        of(counts::RUN_SINGLY),
         of(counts::READ_ONLY_CALLS),
-        of(counts::LARGE_CALLS),
+        of(counts::COMPARED),
+        of(counts::UNUSED),
         of(counts::RUN_CALLS),
         of(counts::RUN_STEPS),
-        of(counts::COMPARED),
         start.elapsed().as_secs_f64()
     );
     if steps >= MANY {

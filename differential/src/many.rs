@@ -13,6 +13,10 @@ use std::thread;
 const AT_A_TIME: usize = 2;
 /// What every part counts once, at its end.
 pub const DONE: &str = "parts";
+/// What runs a list: one in a state that is not large, and one in a large state.
+pub const LISTS: [&str; 2] = ["list", "large"];
+/// Of a hundred steps so many are taken in large states.
+const LARGE_PERCENT: u64 = 6;
 /// Calls of a part with damaged states.
 const CALLS: u64 = 100_000;
 
@@ -39,13 +43,17 @@ pub fn run(mut left: Vec<Part>) -> Result<Counts, String> {
     wrong.map_or(Ok(counts), Err)
 }
 
-/// Lists of so many steps in all, as `what` runs one.
-pub fn lists(what: &'static str, steps: u64, seed: u64) -> Vec<Part> {
-    let (mut random, mut parts, mut planned) = (Random::new(seed), Vec::new(), 0);
-    while planned < steps {
-        let (index, seed) = (parts.len() as u64, random.bits());
-        planned += Plan::of(index, seed).count;
-        parts.push((what, index, seed));
+/// Lists of so many steps in all.
+pub fn lists(steps: u64, seed: u64) -> Vec<Part> {
+    let (mut random, mut parts) = (Random::new(seed), Vec::new());
+    // Of the other lists and of those in large states: how many, and their steps.
+    let (mut counts, mut planned) = ([0; 2], [0; 2]);
+    while planned[0] + planned[1] < steps {
+        let is_large = 100 * planned[1] < LARGE_PERCENT * (planned[0] + planned[1]);
+        let (kind, seed) = (usize::from(is_large), random.bits());
+        planned[kind] += Plan::of(counts[kind], seed, is_large).count;
+        parts.push((LISTS[kind], counts[kind], seed));
+        counts[kind] += 1;
     }
     parts
 }

@@ -96,7 +96,7 @@ fn stuck(sizes: &Sizes) -> Vec<String> {
 /// as a wait queue holds, until there is no cell.
 fn full_wait_queues(random: &mut Random, sizes: &Sizes) -> Vec<String> {
     let wanted = sizes.cells.div_ceil(MOST_EXITS) + 1;
-    let most = random.pick(&[3, 40, 40, 600]);
+    let most = random.pick(&[3, 40]);
     let parents = wanted.min(most).min(sizes.processes.saturating_sub(1));
     let mut lines = waiters(parents);
     let child = ["rfork 16 0", "yield", "sched", "exit full", "sched"];

@@ -14,6 +14,7 @@ compile_error!("these numbers and layouts are those of Linux on x86_64");
 const READ: c_int = 1;
 const READ_WRITE: c_int = 3;
 const PRIVATE_ANONYMOUS: c_int = 0x22;
+const HUGE_PAGES: c_int = 14;
 const SIGSEGV: c_int = 11;
 const WITH_INFO: c_int = 4;
 const DEFAULT: usize = 0;
@@ -36,6 +37,7 @@ struct Info {
 unsafe extern "C" {
     fn mmap(at: *mut u8, n: usize, prot: c_int, flags: c_int, fd: c_int, from: i64) -> *mut u8;
     fn munmap(at: *mut u8, n: usize) -> c_int;
+    fn madvise(at: *mut u8, n: usize, advice: c_int) -> c_int;
     fn mprotect(at: *mut u8, n: usize, prot: c_int) -> c_int;
     fn sigaction(signal: c_int, new: *const Action, old: *mut Action) -> c_int;
     fn signal(signal: c_int, handler: usize) -> usize;
@@ -84,6 +86,9 @@ impl Pages {
         // SAFETY: new memory, wherever it is.
         let start = unsafe { mmap(ptr::null_mut(), length, READ_WRITE, PRIVATE_ANONYMOUS, -1, 0) };
         assert!(start.addr() != usize::MAX, "mmap: {}", Error::last_os_error());
+        // Large pages are protected sooner.  Where there are none, small ones do.
+        // SAFETY: the memory is its own.
+        unsafe { madvise(start, length, HUGE_PAGES) };
         Pages { start, length }
     }
 

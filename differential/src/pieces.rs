@@ -2,6 +2,7 @@
 
 use crate::expected::Expected;
 use crate::lent::Lent;
+use crate::library;
 use crate::list::Taken;
 use oracle::random::Random;
 
@@ -22,6 +23,29 @@ pub fn take(lent: &mut Lent, steps: &[Taken], random: &mut Random) -> Outcome {
     Ok(calls)
 }
 
+/// Take one step; what it must leave of the state is watched as `step` is.
+pub fn take_one(lent: &mut Lent, step: &Taken, random: &mut Random) -> Result<(), String> {
+    let (mut input, room) = (Vec::new(), ANSWER + random.pick(&[0, 0, 1, 159]));
+    put_step(&mut input, &step.bytes);
+    let mut answers = room_for_answers(room);
+    let mut expected = answers.clone();
+    put(&mut expected[..ANSWER], &step.expected);
+    let call = |state: &mut [u8]| library::run(state, &input, &mut answers);
+    let (taken, left) = lent.watched(&step.bytes, &step.expected, call);
+    if taken != 1 {
+        return Err(format!("run takes {taken} steps of one"));
+    }
+    if answers != expected {
+        return Err(difference(&answers, &expected).1);
+    }
+    left
+}
+
+/// Room for answers, with bytes in it that must stay where no answer comes.
+fn room_for_answers(room: usize) -> Vec<u8> {
+    (0..room).map(|at| at as u8 ^ 0x39).collect()
+}
+
 /// One call, with some of the steps: how many were taken.
 fn call(lent: &mut Lent, steps: &[Taken], random: &mut Random) -> Result<usize, (usize, String)> {
     let given = random.pick(&[0, 1, 1, 2, 7, 30, 200, 2_000]).min(steps.len());
@@ -33,7 +57,7 @@ fn call(lent: &mut Lent, steps: &[Taken], random: &mut Random) -> Result<usize, 
     let must = given.min(slots);
     let input = input(&steps[..given], steps.get(given), random);
     let room = ANSWER * slots + random.pick(&[0, 0, 1, 100, 159]);
-    let mut answers: Vec<u8> = (0..room).map(|at| at as u8 ^ 0x39).collect();
+    let mut answers = room_for_answers(room);
     let mut expected = answers.clone();
     for (answer, step) in expected.chunks_exact_mut(ANSWER).zip(&steps[..must]) {
         put(answer, &step.expected);

@@ -12,8 +12,6 @@ pub struct Plan {
     pub opening: Vec<String>,
     /// How many steps, with the opening.
     pub count: u64,
-    /// Whether the state is large.
-    pub is_large: bool,
 }
 
 /// The sizes and frequencies that lists have.
@@ -34,28 +32,24 @@ pub fn all_names() -> [Vec<String>; 3] {
     [all("P", &PROCESSES), all("C", &CELLS), all("hz", &FREQUENCIES)]
 }
 
-/// Of so many lists one is large.
-const LARGE_EVERY: u64 = 40;
-/// From so many bytes on a state is large.
-const LARGE: usize = 300_000;
-/// From so many on its lists are shorter.
+/// A state of more bytes is large.
+pub const LARGE: usize = 300_000;
+/// From so many bytes on a state's lists are shorter.
 const WIDE: usize = 60_000;
 
 impl Plan {
-    /// The plan of list number `index`.
-    pub fn of(index: u64, seed: u64) -> Plan {
+    /// The plan of list number `index` of those in large states, or of the others.
+    pub fn of(index: u64, seed: u64, is_large: bool) -> Plan {
         let mut random = Random::new(seed);
-        let is_large = index % LARGE_EVERY == LARGE_EVERY / 2;
         let sizes = if is_large { large(&mut random, index) } else { small(&mut random) };
         let opening = opening::any(&mut random, &sizes);
-        let bytes = total(layout_sizes(&sizes));
-        let more = match bytes {
-            LARGE.. => 4_000,
+        let more = match total(layout_sizes(&sizes)) {
+            _ if is_large => 4_000,
             WIDE.. => 700,
             _ => 1_500,
         };
         let count = opening.len() as u64 + more;
-        Plan { sizes, opening, count, is_large: bytes >= LARGE }
+        Plan { sizes, opening, count }
     }
 }
 
@@ -75,7 +69,7 @@ fn small(random: &mut Random) -> Sizes {
 fn large(random: &mut Random, index: u64) -> Sizes {
     let mut few = || random.pick(&[1, 16, 4_096, 4_096]);
     let (rendez, locks, timers) = (few(), few(), few());
-    let (processes, cells) = match index / LARGE_EVERY % 4 {
+    let (processes, cells) = match index % 8 {
         0 => (4_096, random.pick(&[1, 2, 256])),
         1 => (random.pick(&[2, 16, 300]), 65_000),
         _ => (4_096, 65_000),

@@ -1,12 +1,13 @@
 //! Whether the comparisons find what they must: a list with something in every
-//! queue, after which states with one thing wrong are compared; and a write to
-//! memory that is read-only.
+//! queue, after which states with one thing wrong are compared, with r9's
+//! structures or with the bytes before; and a write to memory that is read-only.
 
 use crate::bytes;
 use crate::expected::Expected;
 use crate::lent::{Lent, Message};
 use crate::library;
 use crate::pages::Pages;
+use crate::unused::Before;
 use crate::view::View;
 use oracle::driver::Driver;
 use oracle::random::Random;
@@ -15,12 +16,14 @@ use outside::layout::*;
 
 /// Pids 2, 3 and 4 wait for lock 2, which 1 holds; 5 sleeps on Rendez 3, 6 on
 /// Rendez 4 with a timer that has the deadline of timers 1 and 2; 1 has the
-/// exits of 8 and 7; 9 sleeps on its waitr; 10 runs; 1 and 11 are ready.
+/// exits of 10, 8 and 7; 9 sleeps on its waitr; 1 runs; 11 and 12 are ready;
+/// the parent of 12, 10, has gone.
 const LINES: &str = "start 0;start 0;start 0;start 0;start 0;start 0;\
     sched;qlock 2;yield;sched;qlock 2;sched;qlock 2;sched;qlock 2;\
     sched;sleep 3 7;sched;tsleep 4 8 1 0 0;tadd 1 0 1 0 0 0;tadd 2 0 1 0 0 0;\
     sched;rfork 16 0;rfork 16 0;rfork 16 0;rfork 16 0;yield;\
-    sched;exit bay 7;sched;exit bay 8;sched;rfork 16 0;wait;sched";
+    sched;exit bay 7;sched;exit bay 8;sched;rfork 16 0;wait;\
+    sched;rfork 16 0;exit bay 10;sched";
 
 /// A state with one thing wrong: what, whether it is well formed all the same,
 /// so that no check finds it, and how it is made.
@@ -44,6 +47,47 @@ const WRONG: [Wrong; 12] = [
     ("who waits for an exit", false, |e| e.flip(STATE_OF, e.record(9))),
 ];
 
+/// The same of what the machine has no use for, and no comparison with r9 finds;
+/// the last five are left over.
+const UNUSED: [Wrong; 20] = [
+    ("a free record's name", true, |e| e.flip(NAME_BYTE, 27)),
+    ("a free record's parent", true, |e| e.flip(PARENT, 0)),
+    ("a free record's call", true, |e| e.flip(RESUME_KIND, 0)),
+    ("the link of an orphan", true, |e| e.flip(PARENT_AT, e.record(12))),
+    ("a free cell's pid", true, |e| e.flip(EXIT_PID, 0)),
+    ("a free cell's message", true, |e| e.flip(MESSAGE_BYTE, 0)),
+    ("a byte behind a message", true, |e| e.flip(MESSAGE_BYTE, e.behind_message(e.z.c - 1))),
+    ("the deadline of a timer not queued", true, |e| e.flip(DEADLINE, 3)),
+    ("the link of a timer not queued", true, |e| e.flip(TIMER_NEXT, 0)),
+    ("the period of a process's timer", true, |e| e.flip(PERIOD, e.z.k)),
+    ("the Rendez of a queued process's timer", true, |e| e.flip(TIMER_RENDEZ, e.timer(6))),
+    ("the Rendez of timer 0", true, |e| e.flip(TIMER_RENDEZ, 0)),
+    ("a spare byte of a record", true, |e| e.flip_behind(RESUME_OBJECT, e.record(1))),
+    ("a spare byte of a timer", true, |e| e.flip_behind(IS_QUEUED, 1)),
+    ("a spare byte of a cell", true, |e| e.flip_behind(MESSAGE_LENGTH, 0)),
+    ("the link of who runs", false, |e| e.flip(NEXT, e.record(1))),
+    ("the link of a free record", false, |e| e.flip(NEXT, 0)),
+    ("the object of no call", false, |e| e.flip(RESUME_OBJECT, e.record(1))),
+    ("the condition of a qlock", false, |e| e.flip(RESUME_CONDITION, e.record(2))),
+    ("the link of who has no parent", false, |e| e.flip(PARENT_AT, e.record(2))),
+];
+
+/// What a step frees, with some bits of a number in it flipped.
+type Freed = (&'static str, fn(&mut Edited, u64));
+
+const FREED: [Freed; 4] = [
+    ("a freed record's name", |e, bits| {
+        let record = e.record(12);
+        e.free(&[(PID, record), (STATE_OF, record)], (NAME_BYTE, 28 * record), bits);
+    }),
+    ("a freed cell's pid", |e, bits| e.free(&[(OWNER, e.z.c - 1)], (EXIT_PID, e.z.c - 1), bits)),
+    ("a cleared cell's link", |e, bits| {
+        let cell = e.z.c - 1;
+        e.free(&[(OWNER, cell), (EXIT_PID, cell), (MESSAGE_LENGTH, cell)], (CELL_NEXT, cell), bits);
+    }),
+    ("the deadline of a timer taken off", |e, bits| e.free(&[(IS_QUEUED, 1)], (DEADLINE, 1), bits)),
+];
+
 struct Edited {
     bytes: Vec<u8>,
     z: Sizes,
@@ -65,6 +109,27 @@ impl Edited {
 
     fn flip(&mut self, field: Field, i: usize) {
         self.set(field, i, self.get(field, i) ^ 1);
+    }
+
+    /// The spare byte behind a field.
+    fn flip_behind(&mut self, field: Field, i: usize) {
+        self.bytes[field.at(self.z, i) + field.width] ^= 1;
+    }
+
+    /// The timer of a pid.
+    fn timer(&self, pid: u64) -> usize {
+        self.z.k + self.record(pid)
+    }
+
+    /// The first byte behind a cell's message.
+    fn behind_message(&self, cell: usize) -> usize {
+        127 * cell + self.get(MESSAGE_LENGTH, cell) as usize
+    }
+
+    /// These fields are 0, and one has some of its bits flipped.
+    fn free(&mut self, fields: &[(Field, usize)], (field, i): (Field, usize), flipped: u64) {
+        fields.iter().for_each(|&(field, i)| self.set(field, i, 0));
+        self.set(field, i, self.get(field, i) ^ flipped);
     }
 
     fn exchange(&mut self, field: Field, i: usize, j: usize) {
@@ -93,18 +158,42 @@ impl Edited {
 /// What was found, or what was not.
 pub fn run() -> Result<String, String> {
     let lent = taken()?;
-    for (what, is_formed, edit) in WRONG {
-        let mut edited = Edited { bytes: lent.state().to_vec(), z: lent.z };
-        edit(&mut edited);
-        if library::check(&mut edited.bytes) != is_formed {
-            return Err(format!("{what} wrong: check does not say {is_formed}"));
+    let differs = |state: &[u8]| View { bytes: state, z: lent.z }.compare().is_err();
+    let is_changed = |state: &[u8]| Before::new(lent.state(), lent.z).step(state).is_err();
+    finds(&lent, &WRONG, differs)?;
+    finds(&lent, &UNUSED, |state| is_changed(state) && !differs(state))?;
+    for (what, free) in FREED {
+        let is_found = |bits| is_changed(&edited(&lent, |e| free(e, bits)));
+        if is_found(0) {
+            return Err(format!("{what} right: found"));
         }
-        if (View { bytes: &edited.bytes, z: lent.z }).compare().is_ok() {
+        if !is_found(1) {
             return Err(format!("{what} wrong: not found"));
         }
     }
     finds_a_write()?;
-    Ok(format!("{} wrong states and a write to read-only memory are found", WRONG.len()))
+    let count = WRONG.len() + UNUSED.len() + FREED.len();
+    Ok(format!("{count} wrong states and a write to read-only memory are found"))
+}
+
+fn edited(lent: &Lent, edit: impl Fn(&mut Edited)) -> Vec<u8> {
+    let mut edited = Edited { bytes: lent.state().to_vec(), z: lent.z };
+    edit(&mut edited);
+    edited.bytes
+}
+
+/// Each of these is found.
+fn finds(lent: &Lent, all: &[Wrong], is_found: impl Fn(&[u8]) -> bool) -> Result<(), String> {
+    for &(what, is_formed, edit) in all {
+        let mut state = edited(lent, edit);
+        if library::check(&mut state) != is_formed {
+            return Err(format!("{what} wrong: check does not say {is_formed}"));
+        }
+        if !is_found(&state) {
+            return Err(format!("{what} wrong: not found"));
+        }
+    }
+    Ok(())
 }
 
 /// The state after the list, which is as r9's.

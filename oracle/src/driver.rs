@@ -265,6 +265,11 @@ pub fn queued() -> Vec<*mut Proc<Host>> {
     all.into_iter().map(keep).collect()
 }
 
+/// Whether the run queue is empty.
+pub fn is_none_queued() -> bool {
+    Host::run_queue().look(|queue| queue.is_empty())
+}
+
 /// The pids in the run queue, from its head.
 pub fn queued_pids() -> Vec<u64> {
     // SAFETY: the queued processes are alive.

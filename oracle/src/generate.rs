@@ -7,7 +7,7 @@ mod look;
 mod plans;
 mod times;
 
-use crate::driver::{self, Driver, queued};
+use crate::driver::{self, Driver};
 use crate::guard::{cells_in_use, next_meets_5};
 use crate::host::Host;
 use crate::parse::Step;
@@ -172,7 +172,7 @@ impl Generator {
     }
 
     fn kind(&mut self) -> Kind {
-        let column = match (running(), queued().is_empty(), driver::asleep()) {
+        let column = match (running(), driver::is_none_queued(), driver::asleep()) {
             (true, _, _) => 0,
             (false, false, _) => 1,
             (false, true, 1..) => 2,

@@ -3,29 +3,32 @@
 
 use crate::dat::{Proc, Waitmsg};
 use crate::host::Host;
-use crate::mcslock::LockNode;
 use crate::perform::parts;
 use crate::timer::queue::{self, Queued};
 use std::collections::VecDeque;
 use std::iter::successors;
 
+#[inline]
 fn pid(p: *const ()) -> u64 {
     // SAFETY: it is null, or a living process in one of r9's structures.
     unsafe { p.cast::<Proc<Host>>().as_ref() }.map_or(0, |p| p.pid)
 }
 
 /// Who sleeps on a Rendez.
+#[inline]
 pub fn sleeper(r: usize) -> u64 {
-    pid(*parts().rendez[r].sleeper.ilock(&LockNode::new()))
+    parts().rendez[r].sleeper.look(|&p| pid(p))
 }
 
+#[inline]
 pub fn is_held(q: usize) -> bool {
-    parts().locks[q].state.ilock(&LockNode::new()).locked
+    parts().locks[q].state.look(|state| state.locked)
 }
 
 /// The waiters for a lock, from the first.
+#[inline]
 pub fn waiters(q: usize) -> impl Iterator<Item = u64> {
-    let head = parts().locks[q].state.ilock(&LockNode::new()).head.cast::<Proc<Host>>();
+    let head = parts().locks[q].state.look(|state| state.head.cast::<Proc<Host>>());
     // SAFETY: the waiters are alive.
     let of = |p: *mut Proc<Host>| unsafe { p.as_ref() };
     successors(of(head), move |p| of(p.qnext)).map(|p| p.pid)
@@ -67,23 +70,27 @@ pub fn living() -> impl Iterator<Item = Living> {
 }
 
 impl Living {
+    #[inline]
     pub fn pid(&self) -> u64 {
         self.0.pid
     }
 
     /// Whether it sleeps on its own waitr.
+    #[inline]
     pub fn is_waiting(&self) -> bool {
-        let sleeper = pid(*self.0.waitq.waitr.sleeper.ilock(&LockNode::new()));
+        let sleeper = self.0.waitq.waitr.sleeper.look(|&p| pid(p));
         assert!(sleeper == 0 || sleeper == self.0.pid, "another sleeps on a waitr");
         sleeper != 0
     }
 
+    #[inline]
     pub fn nchild(&self) -> usize {
-        self.0.waitq.state.ilock(&LockNode::new()).nchild
+        self.0.waitq.state.look(|state| state.nchild)
     }
 
     /// Look at its wait queue, newest first.
+    #[inline]
     pub fn exits<T>(&self, look: impl FnOnce(&VecDeque<Waitmsg>) -> T) -> T {
-        look(&self.0.waitq.state.ilock(&LockNode::new()).exits)
+        self.0.waitq.state.look(|state| look(&state.exits))
     }
 }

@@ -49,9 +49,14 @@ pub fn run() -> Option<()> {
     Some(())
 }
 
+/// All records wait for a lock, so that each may have a link.
 fn one_long_queue(state: &[u8], z: Sizes) -> Vec<u8> {
     let mut bytes = state.to_vec();
     for i in 0..z.p {
+        STATE_OF.set(&mut bytes, z, i, 3);
+        RESUME_KIND.set(&mut bytes, z, i, 3);
+        RESUME_OBJECT.set(&mut bytes, z, i, (i % z.q) as u64);
+        RESUME_CONDITION.set(&mut bytes, z, i, 0);
         NEXT.set(&mut bytes, z, i, (i as u64 + 2) % (z.p as u64 + 1));
     }
     for q in 0..z.q {

@@ -84,6 +84,7 @@ fn put_records(w: &mut Writer, m: &Machine) {
             None => {
                 w.set(PID, i, 0);
                 w.set(STATE_OF, i, 0);
+                w.set(NEXT, i, 0);
             }
             Some(p) => put_process(w, i, p),
         }
@@ -96,6 +97,13 @@ fn put_process(w: &mut Writer, i: usize, p: &Process) {
     w.set(QUANTUM_END, i, p.quantum_end);
     for (n, &byte) in p.name.iter().enumerate() {
         w.set(NAME_BYTE, 28 * i + n, u64::from(byte));
+    }
+    // Rule 11: they are 0 but in queues and in calls that have them; rule 7: without a parent there is no link to it.
+    for f in [NEXT, RESUME_OBJECT, RESUME_CONDITION] {
+        w.set(f, i, 0);
+    }
+    if p.parent == 0 {
+        w.set(PARENT_AT, i, 0);
     }
     match p.call {
         Call::None => w.set(RESUME_KIND, i, 0),

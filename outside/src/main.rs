@@ -78,6 +78,10 @@ fn generator_is_sound(t: &mut Trial) {
         let (not, all) = t.not_formed(kind);
         t.must(10 * not > 8 * all, || format!("{kind}: only {not} of {all} are not well formed"));
     }
+    let (not, all) = t.not_formed("left over");
+    t.must(all > 0 && not == all, || format!("left over: {not} of {all} are not well formed"));
+    let (not, all) = t.not_formed("free: call");
+    t.must(all > 0 && not == 0, || format!("in free records: {not} of {all} are not well formed"));
     for i in 0..reader::COUNT {
         let alone = t.times_alone(i);
         t.must(alone > 0 || reader::is_implied(i), || {

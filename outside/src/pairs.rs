@@ -484,12 +484,57 @@ fn cell_for_another(b: &Base, rng: &mut Random) -> Option<Vec<Edit>> {
     Some(edits)
 }
 
+/// A free record has a link.
+fn free_next_left_over(b: &Base, rng: &mut Random) -> Option<Vec<Edit>> {
+    let i = rng.any(&b.machine.free())?;
+    Some(vec![b.edit(NEXT, i, 1 + rng.below(b.z.p) as u64)])
+}
+
+/// Somebody without a parent names the record of one.
+fn parent_left_over(b: &Base, rng: &mut Random) -> Option<Vec<Edit>> {
+    let i = rng.any(&b.living_such(|i| b.get(PARENT, i) == 0))?;
+    Some(vec![b.edit(PARENT_AT, i, 1 + rng.below(b.z.p) as u64)])
+}
+
+/// Somebody in no queue has a link.
+fn next_left_over(b: &Base, rng: &mut Random) -> Option<Vec<Edit>> {
+    let is_waiter = |i| b.get(STATE_OF, i) == 3 && b.get(RESUME_KIND, i) == 3;
+    let i = rng.any(&b.living_such(|i| b.get(STATE_OF, i) != 2 && !is_waiter(i)))?;
+    Some(vec![b.edit(NEXT, i, 1 + rng.below(b.z.p) as u64)])
+}
+
+/// A call without an object has one, mostly one that there is.
+fn object_left_over(b: &Base, rng: &mut Random) -> Option<Vec<Edit>> {
+    let i = rng.any(&b.living_such(|i| matches!(b.get(RESUME_KIND, i), 0 | 4)))?;
+    let object = rng.of(&[1, b.z.r - 1, b.z.q - 1, 256, 65_535]).max(1);
+    Some(vec![b.edit(RESUME_OBJECT, i, object as u64)])
+}
+
+/// A call without a condition has one.
+fn condition_left_over(b: &Base, rng: &mut Random) -> Option<Vec<Edit>> {
+    let i = rng.any(&b.living_such(|i| matches!(b.get(RESUME_KIND, i), 0 | 3 | 4)))?;
+    Some(vec![b.edit(RESUME_CONDITION, i, rng.of(&[1, 128, 255]))])
+}
+
+/// Object and condition in a free record, where they mean nothing.
+fn free_left_over(b: &Base, rng: &mut Random) -> Option<Vec<Edit>> {
+    let i = rng.any(&b.machine.free())?;
+    let (object, condition) = (rng.up_to(65_535), rng.up_to(255));
+    Some(vec![b.edit(RESUME_OBJECT, i, object), b.edit(RESUME_CONDITION, i, condition)])
+}
+
 const LINKS: &[(&str, Pair)] = &[
     ("link: to itself", to_itself),
     ("link: to each other", to_each_other),
     ("link: to the wrong queue", to_the_wrong_queue),
     ("link: two exchanged", links_exchanged),
     ("count: off by one", count_off_by_one),
+    ("left over: next", next_left_over),
+    ("left over: next of a free record", free_next_left_over),
+    ("left over: parentAt", parent_left_over),
+    ("left over: resumeObject", object_left_over),
+    ("left over: resumeCondition", condition_left_over),
+    ("free: call", free_left_over),
     ("pair: same field exchanged", same_field_exchanged),
     ("pair: field of living exchanged", living_exchanged),
     ("pair: nchild up and down", nchild_up_down),

@@ -17,7 +17,7 @@ const fn rule(name: &'static str, holds: fn(&State) -> bool) -> Rule {
 }
 
 /// The rules, after the first two: those need no state in range.
-const RULES: [Rule; 33] = [
+const RULES: [Rule; 37] = [
     rule("rule 2: mark", mark),
     rule("rule 3: run queue", run_queue),
     rule("rule 3: lock queues", lock_queues),
@@ -30,11 +30,15 @@ const RULES: [Rule; 33] = [
     rule("rule 6: linked by age", linked_by_age),
     rule("rule 6: pids rise", pids_rise),
     rule("rule 7: parents", parents),
+    rule("rule 7: no parent", no_parent),
     rule("rule 8: record words", record_words),
     rule("rule 8: fullRecords", full_records),
     rule("rule 8: cell words", cell_words),
     rule("rule 8: full words", full_words),
     rule("rule 8: fullCells", full_cells),
+    rule("rule 11: next", next_of_the_unqueued),
+    rule("rule 11: resumeObject", object_of_no_call),
+    rule("rule 11: resumeCondition", condition_of_no_sleep),
     rule("01: last NOW in range", last_now_in_range),
     rule("01: next pid in range", next_pid_in_range),
     rule("01: objects of calls in range", objects_in_range),
@@ -417,6 +421,11 @@ fn parents(s: &State) -> bool {
     })
 }
 
+/// Rule 7: "without a parent it is 0."
+fn no_parent(s: &State) -> bool {
+    s.living().all(|i| s.parents[i] != 0 || s.kept.get(PARENT_AT, i) == 0)
+}
+
 /// Word w of bits: bit b is 1 exactly where 64 w + b is below `n` and such.
 fn word_of(w: usize, n: usize, is_such: impl Fn(usize) -> bool) -> u64 {
     let numbers = (64 * w..64 * w + 64).take_while(|&number| number < n);
@@ -455,6 +464,24 @@ fn full_words(s: &State) -> bool {
 fn full_cells(s: &State) -> bool {
     let full = |v: usize| s.kept.get(FULL_CELL_WORDS, v) == u64::MAX;
     s.kept.header(FULL_CELLS) == word_of(0, 16, full)
+}
+
+/// Rule 11: "`next` is 0 unless the process is ready (`stateOf`
+/// 2) or asleep waiting for a lock (`stateOf` 3 and `resumeKind` 3)."
+fn next_of_the_unqueued(s: &State) -> bool {
+    let is_queued = |i| s.tag(i) == READY || (s.tag(i) == ASLEEP && s.call(i) == QLOCK);
+    (0..s.z.p).all(|i| is_queued(i) || s.kept.get(NEXT, i) == 0)
+}
+
+/// Rule 11: "`resumeObject` is 0 unless the call is a `sleep`, a `tsleep` or a
+/// `qlock` (`resumeKind` 1, 2 or 3)."
+fn object_of_no_call(s: &State) -> bool {
+    s.living().all(|i| matches!(s.call(i), SLEEP | TSLEEP | QLOCK) || s.object(i) == 0)
+}
+
+/// Rule 11: "`resumeCondition` is 0 unless it is a `sleep` or a `tsleep` (1 or 2)."
+fn condition_of_no_sleep(s: &State) -> bool {
+    s.living().all(|i| matches!(s.call(i), SLEEP | TSLEEP) || s.kept.get(RESUME_CONDITION, i) == 0)
 }
 
 /// 01: "its sizes and fields are in range": a NOW is accepted up to 2^51 − 1.

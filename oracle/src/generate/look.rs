@@ -32,13 +32,13 @@ pub fn tells_parent() -> bool {
 
 /// The Rendez where someone sleeps.
 pub fn sleepers() -> Vec<usize> {
-    let asleep = |r: &usize| !parts().rendez[*r].sleeper.ilock(&LockNode::new()).is_null();
+    let asleep = |r: &usize| !parts().rendez[*r].sleeper.look(|p| p.is_null());
     (0..parts().rendez.len()).filter(asleep).collect()
 }
 
 /// The locks whose state passes the test.
 pub fn locks(test: impl Fn(&crate::dat::QState) -> bool) -> Vec<usize> {
-    let passes = |q: &usize| test(&parts().locks[*q].state.ilock(&LockNode::new()));
+    let passes = |q: &usize| parts().locks[*q].state.look(&test);
     (0..parts().locks.len()).filter(passes).collect()
 }
 

@@ -3,7 +3,7 @@
 use super::Generator;
 use super::look::running;
 use super::times::{LAST_READING, STEP_FIRINGS};
-use crate::driver::queued;
+use crate::driver::{is_none_queued, queued};
 
 impl Generator {
     /// Some lines that together go where chance seldom does.
@@ -73,7 +73,7 @@ impl Generator {
 
     /// One child after another leaves a message, until there is no cell.
     pub(super) fn fill_the_cells(&mut self) -> Vec<String> {
-        if !queued().is_empty() {
+        if !is_none_queued() {
             return Vec::new();
         }
         let status = self.random.pick(&["exit", "exit m", "exit mass"]);
