@@ -90,6 +90,7 @@ fn one_field_kind(region: Region) -> &'static str {
         Region::RecordWord => "one field: record word",
         Region::CellWord => "one field: cell word",
         Region::FullWord => "one field: full word",
+        Region::TimerLink => "one field: timer link",
     }
 }
 
@@ -182,9 +183,12 @@ pub fn some_bytes(b: &Base, rng: &mut Random) -> Damage {
 /// The bytes that mean nothing in a living record, or are in no field.
 pub fn spare_bytes(b: &Base, rng: &mut Random) -> Damage {
     let mut edits = Vec::new();
-    for (region, from, to) in
-        [(Region::Process, 42, 48), (Region::Timer, 21, 24), (Region::Cell, 13, 16)]
-    {
+    for (region, from, to) in [
+        (Region::Process, 42, 48),
+        (Region::Timer, 18, 20),
+        (Region::Timer, 21, 24),
+        (Region::Cell, 13, 16),
+    ] {
         let i = rng.below(region.records(b.z));
         for offset in from..to {
             let at = region.begins(b.z) + i * region.bytes_each() + offset;

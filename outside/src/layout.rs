@@ -27,11 +27,12 @@ pub enum Region {
     RecordWord,
     CellWord,
     FullWord,
+    TimerLink,
 }
 
-pub const REGIONS: [Region; 12] = [
+pub const REGIONS: [Region; 13] = [
     Header, Process, Name, Rendez, Lock, Timer, Cell, Message, Condition, RecordWord, CellWord,
-    FullWord,
+    FullWord, TimerLink,
 ];
 
 impl Region {
@@ -42,7 +43,7 @@ impl Region {
             Name => 28 * z.p,
             Rendez => z.r,
             Lock => z.q,
-            Timer => z.k + z.p,
+            Timer | TimerLink => z.k + z.p,
             Cell => z.c,
             Message => 127 * z.c,
             Condition => 256,
@@ -58,7 +59,7 @@ impl Region {
             Header => 80,
             Process => 48,
             Name | Message | Condition => 1,
-            Rendez => 2,
+            Rendez | TimerLink => 2,
             Lock => 6,
             Timer => 24,
             Cell => 16,
@@ -82,6 +83,7 @@ impl Region {
             RecordWord => 336 + 100 * p + 2 * r + 6 * q + 24 * k + 143 * c,
             CellWord => 848 + 100 * p + 2 * r + 6 * q + 24 * k + 143 * c,
             FullWord => 8_976 + 100 * p + 2 * r + 6 * q + 24 * k + 143 * c,
+            TimerLink => 9_104 + 100 * p + 2 * r + 6 * q + 24 * k + 143 * c,
         }
     }
 
@@ -103,13 +105,14 @@ impl Region {
             RecordWord => "record word",
             CellWord => "cell word",
             FullWord => "full word",
+            TimerLink => "timer link",
         }
     }
 }
 
 /// How many bytes a state takes.
 pub fn total(z: Sizes) -> usize {
-    9_104 + 100 * z.p + 2 * z.r + 6 * z.q + 24 * z.k + 143 * z.c
+    9_104 + 102 * z.p + 2 * z.r + 6 * z.q + 26 * z.k + 143 * z.c
 }
 
 /// What a field may hold.
@@ -233,7 +236,7 @@ fields! {
     DEADLINE: Timer, 0, 8, "deadline", Bits;
     PERIOD: Timer, 8, 8, "period", UpTo((1 << 63) - 1);
     TIMER_RENDEZ: Timer, 16, 2, "timerRendez", OneRendez;
-    TIMER_NEXT: Timer, 18, 2, "timerNext", ToTimer;
+    TIMER_NEXT: TimerLink, 0, 2, "timerNext", ToTimer;
     IS_QUEUED: Timer, 20, 1, "isQueued", UpTo(1);
     EXIT_PID: Cell, 0, 8, "exitPid", Bits;
     CELL_NEXT: Cell, 8, 2, "cellNext", ToCell;
@@ -286,5 +289,5 @@ pub fn tables_agree(z: Sizes) -> bool {
     let apart = FIELDS.windows(2).all(|pair| {
         pair[0].region != pair[1].region || pair[0].offset + pair[0].width <= pair[1].offset
     });
-    follow && FullWord.ends(z) == total(z) && fit && apart
+    follow && TimerLink.ends(z) == total(z) && fit && apart
 }

@@ -104,7 +104,7 @@ pub fn names(broken: u64) -> Vec<&'static str> {
 pub struct Kept<'a> {
     bytes: &'a [u8],
     pub z: Sizes,
-    begins: [usize; 12],
+    begins: [usize; REGIONS.len()],
 }
 
 impl<'a> Kept<'a> {

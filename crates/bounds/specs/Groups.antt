@@ -52,7 +52,7 @@ abbrev pub timers : Sizes → List Column
 timers z =
     column 5 8 8 (z .timers + z .processes) 9223372036854775807
     ∷ column 5 16 2 (z .timers + z .processes) (z .rendez - 1)
-    ∷ column 5 18 2 (z .timers + z .processes) (z .timers + z .processes)
+    ∷ column 12 0 2 (z .timers + z .processes) (z .timers + z .processes)
     ∷ column 5 20 1 (z .timers + z .processes) 1
     ∷ []
 

@@ -163,7 +163,7 @@ fn timers_within(s: &[u8], z: Sizes) -> bool
     if !halves_within(s, z, state::TIMER, state::TIMER_RENDEZ, t, r) {
         return false;
     }
-    if !halves_within(s, z, state::TIMER, state::TIMER_NEXT, t, t) {
+    if !halves_within(s, z, state::TIMER_LINK, state::TIMER_NEXT, t, t) {
         return false;
     }
     bytes_within(s, z, state::TIMER, state::IS_QUEUED, t, 1)

@@ -24,7 +24,7 @@ use Rattle.make.specs.Holds.{fresh-well, fresh-abs}
 
 -- How many bytes such a state takes.
 abbrev pub stateSize : ℕ
-stateSize = 47824
+stateSize = 47888
 
 -- The front of s holds a fresh machine of these sizes; what is behind it stays.
 pub record Started (s s′ : List ℕ) (z : Sizes) : Type 0 where

@@ -13,7 +13,7 @@ ghost use Rattle.machine.specs.Listing.{header};
 ghost use Rattle.print.specs.Put.{Put};
 
 // How many bytes a state of the sizes of `steps` takes.
-pub const STATE_SIZE: usize = 47_824;
+pub const STATE_SIZE: usize = 47_888;
 
 // The room for the line begun: one byte more than the longest step has.
 pub const HELD_SIZE: usize = 4_097;

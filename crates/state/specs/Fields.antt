@@ -6,10 +6,10 @@ use Rattle.machine.specs.Machine.{Sizes}
 use Rattle.layout.specs.Table.{Layout, Slot, slot}
 
 -- Regions follow one another: the header, process records, their names, Rendez, locks, timers (the K kernel timers, then one of each
--- process), message cells, their messages, conditions, and the words that say which records and cells are in use. The bytes that one
--- record of each takes:
+-- process), message cells, their messages, conditions, the words that say which records and cells are in use, and the timers' links. The
+-- bytes that one record of each takes:
 abbrev pub strides : List ℕ
-strides = 80 ∷ 48 ∷ 1 ∷ 2 ∷ 6 ∷ 24 ∷ 16 ∷ 1 ∷ 1 ∷ 8 ∷ 8 ∷ 8 ∷ []
+strides = 80 ∷ 48 ∷ 1 ∷ 2 ∷ 6 ∷ 24 ∷ 16 ∷ 1 ∷ 1 ∷ 8 ∷ 8 ∷ 8 ∷ 2 ∷ []
 
 -- and how many records each has.
 abbrev pub counts : Sizes → List ℕ
@@ -26,6 +26,7 @@ counts z =
     ∷ 64
     ∷ 1016
     ∷ 16
+    ∷ (z .timers + z .processes)
     ∷ []
 
 -- tells a state of this kind from other bytes
@@ -306,7 +307,7 @@ rows =
     ∷ row 5 0 8 aWord
     ∷ row 5 8 8 aPeriod
     ∷ row 5 16 2 aRendez
-    ∷ row 5 18 2 toTimer
+    ∷ row 12 0 2 toTimer
     ∷ row 5 20 1 aBit
     ∷ row 6 0 8 aWord
     ∷ row 6 8 2 toCell
@@ -328,4 +329,4 @@ layout1 = record { strides = strides; fields = slots rows }
 
 -- The largest value of a field.
 abbrev pub mostOf : Sizes → ℕ → ℕ
-mostOf z f = most z (getD rows f (row 12 0 0 aBit) .kind)
+mostOf z f = most z (getD rows f (row 13 0 0 aBit) .kind)

@@ -74,9 +74,9 @@ ranges z h =
       sound = layout1-sound;
       wide = λ f l.
           let k : f < length rows = omega arith in
-          let w : bound (getD rows f (row 12 0 0 aBit) .kind) < 256 ^ getD rows f (row 12 0 0 aBit) .place .width =
-          ltb→lt (bound (getD rows f (row 12 0 0 aBit) .kind)) (256 ^ getD rows f (row 12 0 0 aBit) .place .width)
-          (all-at fitting (row 12 0 0 aBit) rows all-fit f k)
+          let w : bound (getD rows f (row 13 0 0 aBit) .kind) < 256 ^ getD rows f (row 13 0 0 aBit) .place .width =
+          ltb→lt (bound (getD rows f (row 13 0 0 aBit) .kind)) (256 ^ getD rows f (row 13 0 0 aBit) .place .width)
+          (all-at fitting (row 13 0 0 aBit) rows all-fit f k)
           in
-          rw (slots-at rows (slot 12 0 0) (row 12 0 0 aBit) f k) (omega (arith, most-bound z h (getD rows f (row 12 0 0 aBit) .kind)));
+          rw (slots-at rows (slot 13 0 0) (row 13 0 0 aBit) f k) (omega (arith, most-bound z h (getD rows f (row 13 0 0 aBit) .kind)));
     }

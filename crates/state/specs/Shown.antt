@@ -9,7 +9,7 @@ use Rattle.machine.specs.Basics.{all}
 use Rattle.layout.specs.Tests.{all-at}
 use Rattle.state.specs.Fields.{strides}
 
-pub stride-small : (r : ℕ) → r < 12 → getD strides r 0 ≤ 80
+pub stride-small : (r : ℕ) → r < 13 → getD strides r 0 ≤ 80
 unfolding all
 stride-small r h = leb→le (getD strides r 0) 80 (all-at (λ (x : ℕ). leb x 80) 0 strides tt r h)
 

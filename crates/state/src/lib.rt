@@ -45,6 +45,8 @@ pub const CELL_WORD: u8 = 10;
 
 pub const FULL_WORD: u8 = 11;
 
+pub const TIMER_LINK: u8 = 12;
+
 // Where the fields lie in their records.
 pub const MARK: u8 = 0;
 
@@ -131,8 +133,6 @@ pub const PERIOD: u8 = 8;
 
 pub const TIMER_RENDEZ: u8 = 16;
 
-pub const TIMER_NEXT: u8 = 18;
-
 pub const IS_QUEUED: u8 = 20;
 
 pub const EXIT_PID: u8 = 0;
@@ -142,6 +142,8 @@ pub const CELL_NEXT: u8 = 8;
 pub const OWNER: u8 = 10;
 
 pub const MESSAGE_LENGTH: u8 = 12;
+
+pub const TIMER_NEXT: u8 = 0;
 
 // Where a region starts, for the first seven.
 fn start_low(z: Sizes, region: u8) -> usize
@@ -173,9 +175,9 @@ fn start_low(z: Sizes, region: u8) -> usize
     timers + (z.timers as usize + z.processes as usize) * 24
 }
 
-// Where a region starts, for the last five; 12 stands for the end of the state.
+// Where a region starts, for the last six; 13 stands for the end of the state.
 fn start_high(z: Sizes, region: u8) -> usize
-    requires { ⌜ (6 < region) × (region < 13) ⌝ }
+    requires { ⌜ (6 < region) × (region < 14) ⌝ }
     ensures { λ r. ⌜ (r ≡ startIn z region) × (r < 33554432) ⌝ }
 {
     let messages = start_low(z, 6) + z.cells as usize * 16;
@@ -195,12 +197,16 @@ fn start_high(z: Sizes, region: u8) -> usize
     if region == 11 {
         return conditions + 8896;
     }
-    conditions + 9024
+    let links = conditions + 9024;
+    if region == 12 {
+        return links;
+    }
+    links + (z.timers as usize + z.processes as usize) * 2
 }
 
 // Where a region starts.
 pub fn start_of(z: Sizes, region: u8) -> usize
-    requires { ⌜ region < 13 ⌝ }
+    requires { ⌜ region < 14 ⌝ }
     ensures { λ r. ⌜ (r ≡ startIn z region) × (r < 33554432) ⌝ }
 {
     if region < 7 {
@@ -211,10 +217,10 @@ pub fn start_of(z: Sizes, region: u8) -> usize
 }
 
 // How many bytes a record of a region takes.
-const STRIDES: [u8; 12] = [80, 48, 1, 2, 6, 24, 16, 1, 1, 8, 8, 8];
+const STRIDES: [u8; 13] = [80, 48, 1, 2, 6, 24, 16, 1, 1, 8, 8, 8, 2];
 
 fn stride_of(region: u8) -> usize
-    requires { ⌜ region < 12 ⌝ }
+    requires { ⌜ region < 13 ⌝ }
     ensures { λ r. ⌜ (r ≡ stride layout1 region) × (r ≤ 80) ⌝ }
 {
     STRIDES[region as usize] as usize
@@ -222,7 +228,7 @@ fn stride_of(region: u8) -> usize
 
 // Where `inner` lies of record `i` of a region.
 fn place_of(z: Sizes, region: u8, inner: u8, i: Index) -> usize
-    requires { ⌜ region < 12 ⌝ }
+    requires { ⌜ region < 13 ⌝ }
     ensures { λ r. ⌜ (r ≡ placeIn z (slot region inner 0) i) × (r < 67108864) ⌝ }
 {
     start_of(z, region) + i as usize * stride_of(region) + inner as usize
@@ -296,7 +302,7 @@ pub fn set64(s: &mut [u8], z: Sizes, region: u8, inner: u8, i: Index, v: u64)
 pub fn total(z: Sizes) -> usize
     ensures { λ r. ⌜ (r ≡ totalIn z) × (r < 33554432) ⌝ }
 {
-    start_of(z, 12)
+    start_of(z, 13)
 }
 
 // Where the name of record `i` begins.

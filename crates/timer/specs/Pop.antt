@@ -83,7 +83,7 @@ pub popped
     → PopAsks z s t
     → n ≡ memIn z s fields.timerNext t
     → PutIn z s s₁ (slot 0 34 2) 0 n
-    → PutIn z s₁ s₂ (slot 5 18 2) t 0
+    → PutIn z s₁ s₂ (slot 12 0 2) t 0
     → PutIn z s₂ s₃ (slot 5 20 1) t 0
     → Deleted z s s₃ t
 popped {z} {s} {s₁} {s₂} {s₃} {t} {n} a e p₁ p₂ p₃ =

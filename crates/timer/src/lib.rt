@@ -39,9 +39,9 @@ fn pop(s: &mut [u8], z: Sizes, t: Index)
     requires { ⌜ PopAsks z (now s) t ⌝ }
     ensures { λ _. ⌜ Deleted z (now (s .entry)) (now (s .exit)) t ⌝ }
 {
-    let next = state::get16(s, z, state::TIMER, state::TIMER_NEXT, t);
+    let next = state::get16(s, z, state::TIMER_LINK, state::TIMER_NEXT, t);
     state::set16(s, z, state::HEADER, state::TIMER_HEAD, 0, next);
-    state::set16(s, z, state::TIMER, state::TIMER_NEXT, t, 0);
+    state::set16(s, z, state::TIMER_LINK, state::TIMER_NEXT, t, 0);
     state::set8(s, z, state::TIMER, state::IS_QUEUED, t, 0);
 }
 

@@ -100,26 +100,26 @@ pub linked-front
     → LinkAsks z s at t
     → at ≡ 0
     → h ≡ memIn z s fields.timerHead 0
-    → PutIn z s s₁ (slot 5 18 2) t h
+    → PutIn z s s₁ (slot 12 0 2) t h
     → PutIn z s₁ s₂ (slot 0 34 2) 0 (t + 1)
     → Wrote z s s₂ (linkStores (memIn z s) at t)
 linked-front {z} {s} {s₁} {s₂} {at} {t} {h} a e q p₁ p₂ =
     rw e
-    (wrote-2 (subst (λ (v : ℕ). PutIn z s s₁ (slot 5 18 2) t v) q p₁) (subst (λ (v : ℕ). PutIn z s₁ s₂ (slot 0 34 2) 0 v) (add-one t) p₂))
+    (wrote-2 (subst (λ (v : ℕ). PutIn z s s₁ (slot 12 0 2) t v) q p₁) (subst (λ (v : ℕ). PutIn z s₁ s₂ (slot 0 34 2) 0 v) (add-one t) p₂))
 
 pub linked-behind
     : {z : Sizes} {s s₁ s₂ : List ℕ} {at t n : ℕ}
     → LinkAsks z s at t
     → (at ≡ 0 → ⊥)
     → n ≡ memIn z s fields.timerNext (at - 1)
-    → PutIn z s s₁ (slot 5 18 2) t n
-    → PutIn z s₁ s₂ (slot 5 18 2) (at - 1) (t + 1)
+    → PutIn z s s₁ (slot 12 0 2) t n
+    → PutIn z s₁ s₂ (slot 12 0 2) (at - 1) (t + 1)
     → Wrote z s s₂ (linkStores (memIn z s) at t)
 linked-behind {z} {s} {s₁} {s₂} {at} {t} {n} a ne q p₁ p₂ =
     let w : Wrote z s s₂ (to fields.timerNext t (memIn z s fields.timerNext (at - 1)) ∷ to fields.timerNext (at - 1) (suc t) ∷ []) =
     wrote-2
-    (subst (λ (v : ℕ). PutIn z s s₁ (slot 5 18 2) t v) q p₁)
-    (subst (λ (v : ℕ). PutIn z s₁ s₂ (slot 5 18 2) (at - 1) v) (add-one t) p₂)
+    (subst (λ (v : ℕ). PutIn z s s₁ (slot 12 0 2) t v) q p₁)
+    (subst (λ (v : ℕ). PutIn z s₁ s₂ (slot 12 0 2) (at - 1) v) (add-one t) p₂)
     in
     go at ne w
   where

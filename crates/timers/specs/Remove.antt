@@ -78,7 +78,7 @@ pub out-first
     → at ≡ 0
     → n ≡ memIn z s fields.timerNext t
     → PutIn z s s₁ (slot 0 34 2) 0 n
-    → PutIn z s₁ s₂ (slot 5 18 2) t 0
+    → PutIn z s₁ s₂ (slot 12 0 2) t 0
     → Wrote z s s₂ (outStores (memIn z s) at t)
 out-first {z} {s} {s₁} {s₂} {at} {t} {n} a e q p₁ p₂ =
     rw e (wrote-2 (subst (λ (v : ℕ). PutIn z s s₁ (slot 0 34 2) 0 v) q p₁) p₂)
@@ -88,11 +88,11 @@ pub out-later
     → LinkAsks z s at t
     → (at ≡ 0 → ⊥)
     → n ≡ memIn z s fields.timerNext t
-    → PutIn z s s₁ (slot 5 18 2) (at - 1) n
-    → PutIn z s₁ s₂ (slot 5 18 2) t 0
+    → PutIn z s s₁ (slot 12 0 2) (at - 1) n
+    → PutIn z s₁ s₂ (slot 12 0 2) t 0
     → Wrote z s s₂ (outStores (memIn z s) at t)
 out-later {z} {s} {s₁} {s₂} {at} {t} {n} a ne q p₁ p₂ =
-    go at ne (wrote-2 (subst (λ (v : ℕ). PutIn z s s₁ (slot 5 18 2) (at - 1) v) q p₁) p₂)
+    go at ne (wrote-2 (subst (λ (v : ℕ). PutIn z s s₁ (slot 12 0 2) (at - 1) v) q p₁) p₂)
   where
     go
         : (k : ℕ)

@@ -8,32 +8,39 @@ ghost use Rattle.timers.specs.Insert.{linkStores, LinkAsks, InsertAsks, 
 ghost use Rattle.timers.specs.Seek.{Sought};
 ghost use Rattle.timers.specs.Remove.{outStores, RemoveAsks, Removed};
 
-// The bytes of a timer's record, and where in it the link to the next one lies.
+// The bytes of a timer's record, and of its link to the next one.
 const STRIDE: usize = 24;
 
-const LINK: usize = 18;
+const LINK: usize = 2;
 
 // Where the record of link 0 would lie, were there one: that of link n lies n records further on.
-fn origin(z: Sizes) -> usize
-    ensures { λ r. ⌜ Origin z r ⌝ }
+fn records(z: Sizes) -> usize
+    ensures { λ r. ⌜ Origin z 5 24 r ⌝ }
 {
     state::start_of(z, state::TIMER) - STRIDE
 }
 
+// The same of the links.
+fn links(z: Sizes) -> usize
+    ensures { λ r. ⌜ Origin z 12 2 r ⌝ }
+{
+    state::start_of(z, state::TIMER_LINK) - LINK
+}
+
 // The deadline in the record of a link; any number for link 0.
 fn deadline_at(s: &[u8], z: Sizes, from: usize, link: usize) -> u64
-    requires { ⌜ ReadAsks z (now s) from link ⌝ }
+    requires { ⌜ ReadAsks z (now s) 5 24 from link ⌝ }
     ensures { λ r. ⌜ DeadlineOf (memIn z (now (s .entry))) link r ⌝ }
 {
     memory::load64(s, from + link * STRIDE)
 }
 
-// The link in the record of a link; any number for link 0.
+// The link behind a link; any number for link 0.
 fn next_at(s: &[u8], z: Sizes, from: usize, link: usize) -> usize
-    requires { ⌜ ReadAsks z (now s) from link ⌝ }
+    requires { ⌜ ReadAsks z (now s) 12 2 from link ⌝ }
     ensures { λ r. ⌜ NextOf (memIn z (now (s .entry))) link r ⌝ }
 {
-    memory::load16(s, from + link * STRIDE + LINK) as usize
+    memory::load16(s, from + link * LINK) as usize
 }
 
 // The link behind which a timer with this deadline goes, 0 for the front: at the end, or before the first later timer.
@@ -41,7 +48,8 @@ pub fn find_before(s: &[u8], z: Sizes, deadline: u64) -> Index
     requires { ⌜ TimersIn z (now s) ⌝ }
     ensures { λ r. ⌜ Found z (memIn z (now (s .entry))) deadline r ⌝ }
 {
-    let from = origin(z);
+    let from = records(z);
+    let nexts = links(z);
     let mut prev: usize = 0;
     let mut link = state::get16(s, z, state::HEADER, state::TIMER_HEAD, 0) as usize;
     let mut key = deadline_at(s, z, from, link);
@@ -53,7 +61,7 @@ pub fn find_before(s: &[u8], z: Sizes, deadline: u64) -> Index
             break prev as Index;
         }
         prev = link;
-        link = next_at(s, z, from, link);
+        link = next_at(s, z, nexts, link);
         key = deadline_at(s, z, from, link);
     };
     at
@@ -66,13 +74,13 @@ fn link_in(s: &mut [u8], z: Sizes, at: Index, t: Index)
 {
     if at == 0 {
         let first = state::get16(s, z, state::HEADER, state::TIMER_HEAD, 0);
-        state::set16(s, z, state::TIMER, state::TIMER_NEXT, t, first);
+        state::set16(s, z, state::TIMER_LINK, state::TIMER_NEXT, t, first);
         state::set16(s, z, state::HEADER, state::TIMER_HEAD, 0, t + 1);
         return;
     }
-    let next = state::get16(s, z, state::TIMER, state::TIMER_NEXT, at - 1);
-    state::set16(s, z, state::TIMER, state::TIMER_NEXT, t, next);
-    state::set16(s, z, state::TIMER, state::TIMER_NEXT, at - 1, t + 1);
+    let next = state::get16(s, z, state::TIMER_LINK, state::TIMER_NEXT, at - 1);
+    state::set16(s, z, state::TIMER_LINK, state::TIMER_NEXT, t, next);
+    state::set16(s, z, state::TIMER_LINK, state::TIMER_NEXT, at - 1, t + 1);
 }
 
 // Queues timer `t` by its deadline, after any timer with the same.
@@ -91,7 +99,7 @@ fn find_link(s: &[u8], z: Sizes, t: Index) -> Index
     requires { ⌜ TimersIn z (now s) ⌝ }
     ensures { λ r. ⌜ Sought z (memIn z (now (s .entry))) t r ⌝ }
 {
-    let from = origin(z);
+    let nexts = links(z);
     let mine = t as usize + 1;
     let mut link = state::get16(s, z, state::HEADER, state::TIMER_HEAD, 0) as usize;
     if link == 0 {
@@ -101,7 +109,7 @@ fn find_link(s: &[u8], z: Sizes, t: Index) -> Index
         return 0;
     }
     let at = loop {
-        let next = next_at(s, z, from, link);
+        let next = next_at(s, z, nexts, link);
         if next == 0 {
             break link as Index;
         }
@@ -118,14 +126,14 @@ fn link_out(s: &mut [u8], z: Sizes, at: Index, t: Index)
     requires { ⌜ LinkAsks z (now s) at t ⌝ }
     ensures { λ _. ⌜ Wrote z (now (s .entry)) (now (s .exit)) (outStores (memIn z (now (s .entry))) at t) ⌝ }
 {
-    let next = state::get16(s, z, state::TIMER, state::TIMER_NEXT, t);
+    let next = state::get16(s, z, state::TIMER_LINK, state::TIMER_NEXT, t);
     if at == 0 {
         state::set16(s, z, state::HEADER, state::TIMER_HEAD, 0, next);
-        state::set16(s, z, state::TIMER, state::TIMER_NEXT, t, 0);
+        state::set16(s, z, state::TIMER_LINK, state::TIMER_NEXT, t, 0);
         return;
     }
-    state::set16(s, z, state::TIMER, state::TIMER_NEXT, at - 1, next);
-    state::set16(s, z, state::TIMER, state::TIMER_NEXT, t, 0);
+    state::set16(s, z, state::TIMER_LINK, state::TIMER_NEXT, at - 1, next);
+    state::set16(s, z, state::TIMER_LINK, state::TIMER_NEXT, t, 0);
 }
 
 // Takes timer `t` off the queue, if it is queued.

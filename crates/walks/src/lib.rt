@@ -211,7 +211,7 @@ pub fn timer_queue_ok(s: &[u8], z: Sizes) -> Counted
             return NOT_COUNTED;
         }
         last = d;
-        link = state::get16(s, z, state::TIMER, state::TIMER_NEXT, link - 1);
+        link = state::get16(s, z, state::TIMER_LINK, state::TIMER_NEXT, link - 1);
         n += 1;
     }
     Counted { ok: true, count: n }

@@ -57,12 +57,32 @@ returns-5 : tie.Need-returns-5
 unfolding start
 returns-5 c = (rw (c .if5 .taken) (omega arith), omega arith)
 
-add-result-4 : tie.Need-add-result-4
-add-result-4 c = search needs
+add-links : tie.Need-add-links
+add-links c = search needs
 
 returns-6 : tie.Need-returns-6
 unfolding start
-returns-6 c = let e : c .before .before .before .before .before .before .before .before .args .region ≡ 12 = omega arith in (rw e (omega arith), omega arith)
+returns-6 c = (rw (c .if6 .taken) (omega arith), omega arith)
+
+cast-result : tie.Need-cast-result
+cast-result c = search needs
+
+cast-result-2 : tie.Need-cast-result-2
+cast-result-2 c = search needs
+
+add-result-4 : tie.Need-add-result-4
+add-result-4 c = search needs
+
+mul-result : tie.Need-mul-result
+mul-result c = search needs
+
+add-result-5 : tie.Need-add-result-5
+add-result-5 c = search needs
+
+returns-7 : tie.Need-returns-7
+unfolding start
+returns-7 c =
+    let e : c .before .before .before .before .before .before .before .before .before .before .before .args .region ≡ 13 = omega arith in (rw e (omega arith), omega arith)
 
 pub start-high-spec : {M : Type 1} → statement M
 start-high-spec =
@@ -83,5 +103,11 @@ start-high-spec =
     returns-4
     add-result-3
     returns-5
+    add-links
+    returns-6
+    cast-result
+    cast-result-2
     add-result-4
-    returns-6)
+    mul-result
+    add-result-5
+    returns-7)

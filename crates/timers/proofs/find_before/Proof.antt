@@ -9,13 +9,16 @@ use Rattle.timers.proofs.find_before.Statement.{statement}
 use Rattle.timers.proofs.find_before.Tie as tie
 
 abbrev Inv-loop : tie.InvT-loop
-Inv-loop s z deadline from prev₀ link₀ key₀ prev link key = Finding z (memIn z s) deadline prev link × DeadlineOf (memIn z s) link key
+Inv-loop s z deadline from nexts prev₀ link₀ key₀ prev link key = Finding z (memIn z s) deadline prev link × DeadlineOf (memIn z s) link key
 
 abbrev μ-loop : tie.MeasureT-loop
-μ-loop s z deadline from prev₀ link₀ key₀ prev link key = length (fromLink z (memIn z s) link)
+μ-loop s z deadline from nexts prev₀ link₀ key₀ prev link key = length (fromLink z (memIn z s) link)
 
-origin-requires : tie.Need-origin-requires Inv-loop μ-loop
-origin-requires c κs = search needs
+records-requires : tie.Need-records-requires Inv-loop μ-loop
+records-requires c κs = search needs
+
+links-requires : tie.Need-links-requires Inv-loop μ-loop
+links-requires c κs = search needs
 
 get16-requires : tie.Need-get16-requires Inv-loop μ-loop
 get16-requires c κs = search needs
@@ -59,7 +62,8 @@ find-before-spec =
     (tie.spec
     Inv-loop
     μ-loop
-    origin-requires
+    records-requires
+    links-requires
     get16-requires
     cast-link
     deadline-at-requires

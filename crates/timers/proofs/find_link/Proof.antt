@@ -8,13 +8,13 @@ use Rattle.timers.proofs.find_link.Statement.{statement}
 use Rattle.timers.proofs.find_link.Tie as tie
 
 abbrev Inv-loop : tie.InvT-loop
-Inv-loop s z t from mine link₀ link = Passed z (memIn z s) t link
+Inv-loop s z t nexts mine link₀ link = Passed z (memIn z s) t link
 
 abbrev μ-loop : tie.MeasureT-loop
-μ-loop s z t from mine link₀ link = length (behindIn z (memIn z s) link)
+μ-loop s z t nexts mine link₀ link = length (behindIn z (memIn z s) link)
 
-origin-requires : tie.Need-origin-requires Inv-loop μ-loop
-origin-requires c κs = search needs
+links-requires : tie.Need-links-requires Inv-loop μ-loop
+links-requires c κs = search needs
 
 add-mine : tie.Need-add-mine Inv-loop μ-loop
 add-mine c = search needs
@@ -61,7 +61,7 @@ find-link-spec =
     (tie.spec
     Inv-loop
     μ-loop
-    origin-requires
+    links-requires
     add-mine
     get16-requires
     cast-link
