@@ -2,17 +2,19 @@
 //! folder is R9_SRC, or where that is unset or empty the one in the `shared`
 //! folder beside the repository.
 //!
-//! The timer queue is private to timer.rs, and only a module inside can read
-//! it.  So of timer.rs a copy in the build's folder is compiled, with one line
-//! behind it that names src/timer_queue.rs as its module `queue`.
+//! The timer queue is private to timer.rs and the next pid to proc.rs, and only
+//! a module inside can read them.  So of these two a copy in the build's folder
+//! is compiled, with one line behind it that names src/timer_queue.rs, or
+//! src/proc_pids.rs, as its module `queue` or `pids`.
 
 use std::path::{Path, PathBuf};
 use std::{env, fs};
 
 const MODULES: [&str; 8] = ["chan", "clock", "dat", "error", "irq", "proc", "segment", "timer"];
 const DEFAULT: &str = "../../shared/docs/src/port/src";
-/// The module that is read from inside, and what reads it.
-const READ: (&str, &str) = ("timer", "src/timer_queue.rs");
+/// The modules that are read from inside: the reader's name there, and its file.
+const READ: [(&str, &str, &str); 2] =
+    [("proc", "pids", "src/proc_pids.rs"), ("timer", "queue", "src/timer_queue.rs")];
 
 fn main() {
     println!("cargo::rerun-if-env-changed=R9_SRC");
@@ -28,7 +30,10 @@ fn name_modules() -> Result<(), String> {
     let mut text = String::new();
     for module in MODULES {
         let file = file(&folder, module)?;
-        let compiled = if module == READ.0 { with_reader(&file, &out)? } else { file };
+        let compiled = match READ.iter().find(|read| read.0 == module) {
+            Some(&(_, reader, path)) => with_reader(&file, reader, path, &out)?,
+            None => file,
+        };
         text += &declaration(&compiled, module);
     }
     write(&out.join("port.rs"), text.as_bytes())
@@ -57,12 +62,12 @@ fn file(folder: &Path, module: &str) -> Result<PathBuf, String> {
 }
 
 /// A copy of the file with its reader named behind it.
-fn with_reader(file: &Path, out: &Path) -> Result<PathBuf, String> {
+fn with_reader(file: &Path, reader: &str, path: &str, out: &Path) -> Result<PathBuf, String> {
     let package = env::var_os("CARGO_MANIFEST_DIR").ok_or("CARGO_MANIFEST_DIR is not set")?;
     let mut text = fs::read(file).map_err(|e| format!("{}: {e}", file.display()))?;
-    let reader = Path::new(&package).join(READ.1);
-    text.extend(format!("#[path = {reader:?}] pub mod queue;\n").bytes());
-    let copy = out.join(READ.0).with_extension("rs");
+    let path = Path::new(&package).join(path);
+    text.extend(format!("#[path = {path:?}] pub mod {reader};\n").bytes());
+    let copy = out.join(file.file_name().ok_or("a file without a name")?);
     write(&copy, &text)?;
     Ok(copy)
 }

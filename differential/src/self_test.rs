@@ -29,7 +29,7 @@ const LINES: &str = "start 0;start 0;start 0;start 0;start 0;start 0;\
 /// so that no check finds it, and how it is made.
 type Wrong = (&'static str, bool, fn(&mut Edited));
 
-const WRONG: [Wrong; 12] = [
+const WRONG: [Wrong; 19] = [
     ("the run queue", true, |e| e.swap((RUN_HEAD, 0), NEXT, Some(RUN_TAIL), 0)),
     ("the first waiters for a lock", true, |e| e.swap((LOCK_HEAD, 2), NEXT, Some(LOCK_TAIL), 0)),
     ("the last waiters for a lock", true, |e| e.swap((LOCK_HEAD, 2), NEXT, Some(LOCK_TAIL), 1)),
@@ -45,6 +45,13 @@ const WRONG: [Wrong; 12] = [
     }),
     ("nchild", false, |e| e.flip(NCHILD, e.record(1))),
     ("who waits for an exit", false, |e| e.flip(STATE_OF, e.record(9))),
+    ("the next pid", true, |e| e.set(NEXT_PID, 0, e.get(NEXT_PID, 0) + 1)),
+    ("the last NOW", true, |e| e.flip(LAST_NOW, 0)),
+    ("a condition", true, |e| e.flip(CONDITION_BIT, 255)),
+    ("the end of a name", true, |e| e.flip(NAME_BYTE, 28 * e.record(12) + 27)),
+    ("the end of a quantum", true, |e| e.flip(QUANTUM_END, e.record(11))),
+    ("the parent of an orphan", true, |e| e.set(PARENT, e.record(12), 8)),
+    ("the record of a parent", false, |e| e.set(PARENT_AT, e.record(11), e.record(1) as u64 + 1)),
 ];
 
 /// The same of what the machine has no use for, and no comparison with r9 finds;

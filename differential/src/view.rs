@@ -1,9 +1,15 @@
 //! What a state's bytes hold, read by docs/STATE.md, against what r9's own
-//! structures hold: who runs, the order of every queue, who sleeps where, the
-//! exits in every wait queue.
+//! structures hold: who runs, the order of every queue, who sleeps where, what
+//! each process is and the exits in its wait queue.  Two parts are not r9's but
+//! the driver's: the conditions, and the counter's reading.
+//!
+//! Not compared, since they show in what r9 does later: the call of who is
+//! switched out, which r9 has on that one's stack, and a kernel timer's period
+//! and Rendez.
 
 use oracle::driver;
 use oracle::places::{self, Living, Timer};
+use oracle::sizes::CONDITIONS;
 use outside::layout::*;
 use std::fmt::Debug;
 use std::iter::successors;
@@ -34,9 +40,7 @@ impl<'a> View<'a> {
     /// The same of all but the living and their wait queues, of which bare r9
     /// keeps no list.
     pub fn compare_queues(self) -> Result<(), String> {
-        same(("who runs", 0), self.pid(self.get(UP, 0)), driver::up())?;
-        same(("asleep", 0), self.get(ASLEEP_COUNT, 0), driver::asleep() as u64)?;
-        same(("ticks", 0), self.get(TICKS, 0), driver::ticks())?;
+        self.compare_numbers()?;
         let queued = driver::queued_pids();
         same_list(("the run queue", 0), self.processes(self.get(RUN_HEAD, 0)), queued.into_iter())?;
         for r in 0..self.z.r {
@@ -49,18 +53,48 @@ impl<'a> View<'a> {
         same_list(("the timer queue", 0), self.timers(), places::timers())
     }
 
-    /// The living by age, and of each whether it sleeps on its waitr, its
-    /// nchild, and its exits from the newest on.
+    /// Who runs, what is counted, and the conditions.
+    fn compare_numbers(self) -> Result<(), String> {
+        same(("who runs", 0), self.pid(self.get(UP, 0)), driver::up())?;
+        same(("asleep", 0), self.get(ASLEEP_COUNT, 0), driver::asleep() as u64)?;
+        same(("ticks", 0), self.get(TICKS, 0), driver::ticks())?;
+        same(("the next pid", 0), self.get(NEXT_PID, 0), driver::next_pid())?;
+        same(("the last NOW", 0), self.get(LAST_NOW, 0), driver::now())?;
+        let bits = self.bytes[CONDITION_BIT.at(self.z, 0)..].iter().take(CONDITIONS);
+        same_list(("the conditions", 0), bits.map(|&bit| bit != 0), places::conditions())
+    }
+
+    /// The living by age, and what each is.
     fn compare_living(self) -> Result<(), String> {
         let mut records = self.chain(self.get(OLDEST, 0), YOUNGER);
         for process in places::living() {
             let record = records.next();
             same(("the living", 0), record.map(|i| self.get(PID, i)), Some(process.pid()))?;
-            record.map_or(Ok(()), |i| self.compare_wait(i, &process))?;
+            if let Some(i) = record {
+                self.compare_process(i, &process)?;
+                self.compare_wait(i, &process)?;
+            }
         }
         same(("the living", 0), records.next().map(|i| self.get(PID, i)), None)
     }
 
+    /// Its name, the end of its quantum, and its parent; that one's record too,
+    /// where it lives.
+    fn compare_process(self, i: usize, process: &Living) -> Result<(), String> {
+        let pid = process.pid() as usize;
+        let (name, parent) = (process.name(), process.parent());
+        let bytes = &self.bytes[NAME_BYTE.at(self.z, name.len() * i)..];
+        same(("name, process", pid), &bytes[..name.len()], &name[..])?;
+        same(("quantum end, process", pid), self.get(QUANTUM_END, i), process.quantum_end())?;
+        same(("parent, process", pid), self.get(PARENT, i), parent)?;
+        if !process.has_living_parent() {
+            return Ok(());
+        }
+        same(("parent's record, process", pid), self.pid(self.get(PARENT_AT, i)), parent)
+    }
+
+    /// Whether it sleeps on its waitr, its nchild, and its exits from the
+    /// newest on.
     fn compare_wait(self, i: usize, process: &Living) -> Result<(), String> {
         let pid = process.pid() as usize;
         let is_waiting = self.get(STATE_OF, i) == ASLEEP && self.get(RESUME_KIND, i) == WAIT;

@@ -9,9 +9,11 @@ use crate::host::{self, Ended, Host};
 use crate::mcslock::LockNode;
 use crate::parse::{self, Step};
 use crate::perform::{self, Answer, parts};
+use crate::proc::pids;
 use crate::sizes::Sizes;
 use crate::timer;
 use std::collections::BTreeMap;
+use std::sync::Arc;
 use std::time::Duration;
 
 /// The most firings of a step that is run.
@@ -243,8 +245,10 @@ fn child_of(answer: Option<Answer>) -> Option<(u64, Vec<u8>)> {
 fn note_birth(pid: u64) {
     let p = *queued().last().expect("a new process is in the run queue");
     // SAFETY: it is in the run queue.
-    assert!(unsafe { (*p).pid } == pid, "the new process is not the last one queued");
+    let born = unsafe { &*p };
+    assert!(born.pid == pid, "the new process is not the last one queued");
     parts().living.borrow_mut().push(p);
+    parts().wait_queues.borrow_mut().insert(Arc::as_ptr(&born.waitq), pid);
 }
 
 fn note_death(pid: u64) {
@@ -282,6 +286,15 @@ pub fn asleep() -> usize {
 
 pub fn ticks() -> u64 {
     timer::ticks()
+}
+
+pub fn next_pid() -> u64 {
+    pids::next()
+}
+
+/// The counter's reading: NOW of the last step that r9 was given with one.
+pub fn now() -> u64 {
+    host::NOW.0.get()
 }
 
 /// The running process's pid, or 0.

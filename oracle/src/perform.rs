@@ -1,7 +1,7 @@
 //! The steps, each given to r9's own function.  A step is performed in the
 //! context of the process that runs, or in the driver's where none does.
 
-use crate::dat::{Proc, ProcArch, QLock, Rendez};
+use crate::dat::{Proc, ProcArch, QLock, Rendez, WaitQueue};
 use crate::error::{EBADARG, EINUSE, ENOCHILD, ENOVMEM};
 use crate::host::{self, Host, Single};
 use crate::pagealloc::NO_PAGES;
@@ -10,6 +10,7 @@ use crate::sizes::{CONDITIONS, Sizes};
 use crate::timer::{self, Mode, Timer};
 use crate::{irq, proc};
 use std::cell::{Cell, OnceCell, RefCell};
+use std::collections::HashMap;
 use std::sync::atomic::Ordering;
 use std::time::Duration;
 
@@ -38,6 +39,9 @@ pub struct Parts {
     pub timers: Vec<KernelTimer>,
     /// The living processes, wherever they are.
     pub living: RefCell<Vec<*mut Proc<Host>>>,
+    /// Whose each wait queue is or was; one that has gone may have the address
+    /// of a later one, which stands here then.
+    pub wait_queues: RefCell<HashMap<*const WaitQueue, u64>>,
 }
 
 /// A kernel timer: r9's Timer, whose mode cannot change, and the mode.
@@ -58,6 +62,7 @@ pub fn init(sizes: &Sizes) {
         conditions: vec![Cell::new(false); CONDITIONS],
         timers: (0..sizes.timers).map(KernelTimer::new).collect(),
         living: RefCell::default(),
+        wait_queues: RefCell::default(),
     };
     assert!(PARTS.0.set(parts).is_ok(), "two lists in one run");
 }

@@ -1,12 +1,15 @@
-//! Where r9's own structures hold processes, timers and exits: read, nothing
-//! is changed.  Processes are named by their pids; 0 is none.
+//! What r9's own structures hold of processes, timers and exits, and where; and
+//! the conditions, which are the driver's.  Read, nothing is changed.  Processes
+//! are named by their pids; 0 is none.
 
-use crate::dat::{Proc, Waitmsg};
+use crate::dat::{KNAMELEN, Proc, Waitmsg};
 use crate::host::Host;
 use crate::perform::parts;
 use crate::timer::queue::{self, Queued};
+use std::cell::Cell;
 use std::collections::VecDeque;
 use std::iter::successors;
+use std::sync::Arc;
 
 #[inline]
 fn pid(p: *const ()) -> u64 {
@@ -32,6 +35,11 @@ pub fn waiters(q: usize) -> impl Iterator<Item = u64> {
     // SAFETY: the waiters are alive.
     let of = |p: *mut Proc<Host>| unsafe { p.as_ref() };
     successors(of(head), move |p| of(p.qnext)).map(|p| p.pid)
+}
+
+#[inline]
+pub fn conditions() -> impl Iterator<Item = bool> {
+    parts().conditions.iter().map(Cell::get)
 }
 
 /// A timer: a kernel timer by its number, or the one of a process.
@@ -73,6 +81,29 @@ impl Living {
     #[inline]
     pub fn pid(&self) -> u64 {
         self.0.pid
+    }
+
+    #[inline]
+    pub fn name(&self) -> &[u8; KNAMELEN] {
+        &self.0.text
+    }
+
+    #[inline]
+    pub fn quantum_end(&self) -> u64 {
+        self.0.quantum_end
+    }
+
+    /// Its parent, one that has gone too.  r9 keeps the parent's wait queue, as
+    /// long as the child lives; the driver, whose that is.
+    #[inline]
+    pub fn parent(&self) -> u64 {
+        let whose = parts().wait_queues.borrow();
+        self.0.parent.as_ref().map_or(0, |queue| whose[&Arc::as_ptr(queue)])
+    }
+
+    #[inline]
+    pub fn has_living_parent(&self) -> bool {
+        self.0.parent.as_ref().is_some_and(|queue| queue.state.look(|state| state.alive))
     }
 
     /// Whether it sleeps on its own waitr.
