@@ -66,16 +66,17 @@ impl Generator {
     /// A line with a field out of range, or that is no step, or that looks
     /// like none and is one.
     pub(super) fn nonsense(&mut self) -> Vec<u8> {
+        let text = match self.random.below(32) {
+            kind @ 4..=20 => self.out_of_range(kind),
+            kind => self.odd_form(kind),
+        };
+        text.into_bytes()
+    }
+
+    fn out_of_range(&mut self, kind: u64) -> String {
         let sizes = self.driver.sizes;
         let now = self.driver.last_now;
-        let text = match self.random.below(32) {
-            0 => String::new(),
-            1 => self
-                .random
-                .pick(&[" ", "i", "i ", "i i due", " due", "due ", "Due", "due\t"])
-                .into(),
-            2 => self.random.pick(&["start", "start 3", "start 0 ", "start  0", "start -0"]).into(),
-            3 => self.random.pick(&["rfork 16", "rfork 16 4", "rfork 4294967296 0"]).into(),
+        match kind {
             4 => format!("sleep {} 0", sizes.rendez),
             5 => "sleep 0 256".into(),
             6 => format!("tsleep 0 0 0 1000000000 {now}"),
@@ -92,24 +93,30 @@ impl Generator {
             17 => format!("tdel {}", self.random.pick(&[0, sizes.timers])),
             18 => "intr 18446744073709551616".into(),
             19 => "clock +1".into(),
-            20 => format!("name {}", "n".repeat(NAME_MAX + 1)),
-            21 => {
-                self.random.pick(&["sched 0", "yield 1", "wait ", "exits", "names", "qlock"]).into()
-            }
-            22 => format!("start {}", self.random.pick(&["00", "000000000000000000000000"])),
+            _ => format!("name {}", "n".repeat(NAME_MAX + 1)),
+        }
+    }
+
+    fn odd_form(&mut self, kind: u64) -> String {
+        let random = &mut self.random;
+        match kind {
+            0 => String::new(),
+            1 => random.pick(&[" ", "i", "i ", "i i due", " due", "due ", "Due", "due\t"]).into(),
+            2 => random.pick(&["start", "start 3", "start 0 ", "start  0", "start -0"]).into(),
+            3 => random.pick(&["rfork 16", "rfork 16 4", "rfork 4294967296 0"]).into(),
+            21 => random.pick(&["sched 0", "yield 1", "wait ", "exits", "names", "qlock"]).into(),
+            22 => random.pick(&["start 00", "start 000000000000000000000000"]).into(),
             23 => format!("wakeup 0{}", self.rendez_to_wake()),
-            24 => format!("intr 00{now}"),
-            25 if self.random.chance(10) => format!("exit {}", "e".repeat(4092)),
-            26 => self.random.pick(&["name", "name ", "i name", "i exit"]).into(),
-            27 => format!("rfork {} 4", self.random.pick(&FORKS)),
+            24 => format!("intr 00{}", self.driver.last_now),
+            25 if random.chance(10) => format!("exit {}", "e".repeat(4092)),
+            26 => random.pick(&["name", "name ", "i name", "i exit"]).into(),
+            27 => format!("rfork {} 4", random.pick(&FORKS)),
             28 => "wakeup 18446744073709551616".into(),
             29 => format!("i qlock {}", self.lock_to_take()),
-            30 => format!(
-                "i {}",
-                self.random.pick(&["wait", "yield", "sched", "start 0", "rfork 16 0"])
-            ),
+            30 => {
+                random.pick(&["i wait", "i yield", "i sched", "i start 0", "i rfork 16 0"]).into()
+            }
             _ => "stow 1".into(),
-        };
-        text.into_bytes()
+        }
     }
 }
