@@ -117,10 +117,10 @@ fn states_within(s: &[u8], z: Sizes) -> bool
     if !bytes_within(s, z, state::PROCESS, state::NEXITS, p, 128) {
         return false;
     }
-    if !bytes_within(s, z, state::PROCESS, state::STATE_OF, p, 3) {
+    if !bytes_within(s, z, state::PROCESS, state::STATE_OF, p, state::ASLEEP) {
         return false;
     }
-    bytes_within(s, z, state::PROCESS, state::RESUME_KIND, p, 4)
+    bytes_within(s, z, state::PROCESS, state::RESUME_KIND, p, state::WAIT)
 }
 
 // Rendez and locks.

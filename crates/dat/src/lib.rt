@@ -12,13 +12,6 @@ ghost use Rattle.dat.specs.Rendez.{WakeAsks, Woke, SleepAsks, Slept};
 ghost use Rattle.dat.specs.Own.{StopAsks, Stopped, RunAsks, Ran, CallAsks, Called};
 ghost use Rattle.dat.specs.Waitr.{WaitAsks, Waited, OwnAsks, OnWaitr, WokeOwn};
 
-// A process's state: 0 in a free record.
-pub const RUNNING: u8 = 1;
-
-pub const READY: u8 = 2;
-
-pub const ASLEEP: u8 = 3;
-
 // The run queue, as the header holds it.
 fn load_run(s: &[u8], z: Sizes) -> RunQueue
     requires { ⌜ Long z (now s) ⌝ }
@@ -50,7 +43,7 @@ pub fn ready(s: &mut [u8], z: Sizes, i: Index)
     let old = load_run(s, z);
     let new = queue::push(s, z, old, i);
     store_run(s, z, new);
-    state::set8(s, z, state::PROCESS, state::STATE_OF, i, READY);
+    state::set8(s, z, state::PROCESS, state::STATE_OF, i, state::READY);
 }
 
 // Takes the first process off the run queue: the link to it, 0 for none.
@@ -117,7 +110,7 @@ pub fn sleep_on(s: &mut [u8], z: Sizes, i: Index, r: Index)
 {
     more_asleep(s, z);
     state::set16(s, z, state::RENDEZ, state::SLEEPER_OF, r, i + 1);
-    state::set8(s, z, state::PROCESS, state::STATE_OF, i, ASLEEP);
+    state::set8(s, z, state::PROCESS, state::STATE_OF, i, state::ASLEEP);
 }
 
 // Nobody runs: whoever ran is taken off.
@@ -134,7 +127,7 @@ pub fn set_up(s: &mut [u8], z: Sizes, i: Index)
     ensures { λ _. ⌜ Ran z (now (s .entry)) (now (s .exit)) i ⌝ }
 {
     state::set16(s, z, state::HEADER, state::UP, 0, i + 1);
-    state::set8(s, z, state::PROCESS, state::STATE_OF, i, RUNNING);
+    state::set8(s, z, state::PROCESS, state::STATE_OF, i, state::RUNNING);
 }
 
 // Where the call of process `i` goes on.
@@ -151,7 +144,7 @@ pub fn wait_on(s: &mut [u8], z: Sizes, i: Index)
     ensures { λ _. ⌜ Waited z (now (s .entry)) (now (s .exit)) i ⌝ }
 {
     more_asleep(s, z);
-    state::set8(s, z, state::PROCESS, state::STATE_OF, i, ASLEEP);
+    state::set8(s, z, state::PROCESS, state::STATE_OF, i, state::ASLEEP);
 }
 
 // Is process `i` asleep on its own waitr?
@@ -160,7 +153,7 @@ fn on_waitr(s: &[u8], z: Sizes, i: Index) -> bool
     ensures { λ t. ⌜ OnWaitr z (now (s .entry)) i t ⌝ }
 {
     let place = state::get8(s, z, state::PROCESS, state::STATE_OF, i);
-    if place != ASLEEP {
+    if place != state::ASLEEP {
         return false;
     }
     let call = state::get8(s, z, state::PROCESS, state::RESUME_KIND, i);
@@ -175,7 +168,7 @@ pub fn wake_waitr(s: &mut [u8], z: Sizes, i: Index) -> bool
     if !on_waitr(s, z, i) {
         return false;
     }
-    state::set8(s, z, state::PROCESS, state::STATE_OF, i, READY);
+    state::set8(s, z, state::PROCESS, state::STATE_OF, i, state::READY);
     awaken(s, z, i);
     true
 }

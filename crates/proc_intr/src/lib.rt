@@ -11,9 +11,6 @@ ghost use Rattle.proc_intr.specs.Due.{DueAsks, FiredDue};
 ghost use Rattle.proc_intr.specs.Interrupt.{Interrupted};
 ghost use Rattle.outcome.specs.Took.{Took};
 
-// The number of a call that is a `tsleep`.
-const TSLEEP: u8 = 2;
-
 // After how many firings, each time, `interrupt` says that it seems stuck.
 const STUCK_LOOPS: u64 = 20_000;
 
@@ -23,7 +20,7 @@ fn twakeup(s: &mut [u8], z: Sizes, i: Index) -> Index
     ensures { λ l. ⌜ Twoken z (now (s .entry)) (now (s .exit)) i l ⌝ }
 {
     let call = state::get8(s, z, state::PROCESS, state::RESUME_KIND, i);
-    if call != TSLEEP {
+    if call != state::TSLEEP {
         return 0;
     }
     let r = state::get16(s, z, state::PROCESS, state::RESUME_OBJECT, i);

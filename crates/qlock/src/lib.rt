@@ -38,7 +38,7 @@ pub fn enqueue(s: &mut [u8], z: Sizes, q: Index, i: Index)
     let old = load_lock(s, z, q);
     let new = queue::push(s, z, old, i);
     store_lock(s, z, q, new);
-    state::set8(s, z, state::PROCESS, state::STATE_OF, i, dat::ASLEEP);
+    state::set8(s, z, state::PROCESS, state::STATE_OF, i, state::ASLEEP);
 }
 
 // Takes the first off the queue of lock `q`: the link to it, 0 for none.

@@ -41,16 +41,16 @@ pub fn resume_of(kind: u8, object: Index, condition: u8) -> Resume
     ensures { λ r. ⌜ resumeIs kind object condition r ⌝ }
 {
     match kind {
-        1 => Resume::Sleep {
+        state::SLEEP => Resume::Sleep {
             rendez: object,
             condition,
         },
-        2 => Resume::Tsleep {
+        state::TSLEEP => Resume::Tsleep {
             rendez: object,
             condition,
         },
-        3 => Resume::Qlock { lock: object },
-        4 => Resume::Wait,
+        state::QLOCK => Resume::Qlock { lock: object },
+        state::WAIT => Resume::Wait,
         _ => Resume::Nothing,
     }
 }
@@ -60,16 +60,16 @@ pub fn resume_number(r: Resume) -> u8
     ensures { λ n. ⌜ n ≡ numberOf r ⌝ }
 {
     match r {
-        Resume::Nothing => 0,
+        Resume::Nothing => state::NO_CALL,
         Resume::Sleep {
             rendez: _,
             condition: _,
-        } => 1,
+        } => state::SLEEP,
         Resume::Tsleep {
             rendez: _,
             condition: _,
-        } => 2,
-        Resume::Qlock { lock: _ } => 3,
+        } => state::TSLEEP,
+        Resume::Qlock { lock: _ } => state::QLOCK,
         Resume::Wait => state::WAIT,
     }
 }

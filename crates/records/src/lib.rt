@@ -44,7 +44,7 @@ fn newborn(old: Proc, p: Proc, pid: u64) -> Proc
         nchild: 0,
         exits: 0,
         nexits: 0,
-        state: dat::READY,
+        state: state::READY,
         resume: Resume::Nothing,
         text,
     }
@@ -85,7 +85,7 @@ pub fn release(s: &mut [u8], z: Sizes, i: Index)
     ages::age_out(s, z, i);
     free::drop_record(s, z, i);
     state::set64(s, z, state::PROCESS, state::PID, i, 0);
-    state::set8(s, z, state::PROCESS, state::STATE_OF, i, 0);
+    state::set8(s, z, state::PROCESS, state::STATE_OF, i, state::FREE);
 }
 
 // Process `i` has `n` living children.

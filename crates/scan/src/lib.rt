@@ -46,7 +46,7 @@ fn sleep_ok(s: &[u8], z: Sizes, i: Index) -> bool
     if rendez <= object {
         return false;
     }
-    if state != 3 {
+    if state != state::ASLEEP {
         return true;
     }
     let sleeper = state::get16(s, z, state::RENDEZ, state::SLEEPER_OF, object);
@@ -64,8 +64,8 @@ pub fn call_ok(s: &[u8], z: Sizes, i: Index) -> bool
     let locks = z.locks;
     let state = state::get8(s, z, state::PROCESS, state::STATE_OF, i);
     let kind = state::get8(s, z, state::PROCESS, state::RESUME_KIND, i);
-    if state == 1 {
-        if kind != 0 {
+    if state == state::RUNNING {
+        if kind != state::NO_CALL {
             return false;
         }
         let up = state::get16(s, z, state::HEADER, state::UP, 0);
@@ -74,17 +74,17 @@ pub fn call_ok(s: &[u8], z: Sizes, i: Index) -> bool
         }
         return true;
     }
-    if kind == 0 {
-        if state == 3 {
+    if kind == state::NO_CALL {
+        if state == state::ASLEEP {
             return false;
         }
         return true;
     }
-    if kind < 3 {
+    if kind < state::QLOCK {
         return sleep_ok(s, z, i);
     }
     let object = state::get16(s, z, state::PROCESS, state::RESUME_OBJECT, i);
-    if kind == 3 {
+    if kind == state::QLOCK {
         if locks <= object {
             return false;
         }
@@ -99,17 +99,17 @@ fn blank_ok(s: &[u8], z: Sizes, i: Index) -> bool
     ensures { λ r. ⌜ Decides r (BlankAt (memIn z (now (s .entry))) i) ⌝ }
 {
     let kind = state::get8(s, z, state::PROCESS, state::RESUME_KIND, i);
-    if kind == 1 {
+    if kind == state::SLEEP {
         return true;
     }
-    if kind == 2 {
+    if kind == state::TSLEEP {
         return true;
     }
     let condition = state::get8(s, z, state::PROCESS, state::RESUME_CONDITION, i);
     if condition != 0 {
         return false;
     }
-    if kind == 3 {
+    if kind == state::QLOCK {
         return true;
     }
     let object = state::get16(s, z, state::PROCESS, state::RESUME_OBJECT, i);
@@ -145,14 +145,14 @@ fn link_ok(s: &[u8], z: Sizes, i: Index) -> bool
         return true;
     }
     let state = state::get8(s, z, state::PROCESS, state::STATE_OF, i);
-    if state == 2 {
+    if state == state::READY {
         return true;
     }
-    if state != 3 {
+    if state != state::ASLEEP {
         return false;
     }
     let kind = state::get8(s, z, state::PROCESS, state::RESUME_KIND, i);
-    if kind != 3 {
+    if kind != state::QLOCK {
         return false;
     }
     true
@@ -177,7 +177,7 @@ pub fn used_ok(s: &[u8], z: Sizes, i: Index) -> bool
     ensures { λ r. ⌜ Decides r (UsedOk (sizesIn z) (memIn z (now (s .entry))) i) ⌝ }
 {
     let state = state::get8(s, z, state::PROCESS, state::STATE_OF, i);
-    if state == 0 {
+    if state == state::FREE {
         return false;
     }
     let pid = state::get64(s, z, state::PROCESS, state::PID, i);
@@ -217,7 +217,7 @@ pub fn record_ok(s: &[u8], z: Sizes, i: Index) -> bool
     let pid = state::get64(s, z, state::PROCESS, state::PID, i);
     if pid == 0 {
         let state = state::get8(s, z, state::PROCESS, state::STATE_OF, i);
-        if state != 0 {
+        if state != state::FREE {
             return false;
         }
         return true;
@@ -258,14 +258,14 @@ fn sleeps_here(s: &[u8], z: Sizes, r: Index, i: Index) -> bool
     ensures { λ b. ⌜ Decides b (SleepsHere (memIn z (now (s .entry))) r i) ⌝ }
 {
     let state = state::get8(s, z, state::PROCESS, state::STATE_OF, i);
-    if state != 3 {
+    if state != state::ASLEEP {
         return false;
     }
     let kind = state::get8(s, z, state::PROCESS, state::RESUME_KIND, i);
-    if kind == 0 {
+    if kind == state::NO_CALL {
         return false;
     }
-    if 2 < kind {
+    if state::TSLEEP < kind {
         return false;
     }
     let object = state::get16(s, z, state::PROCESS, state::RESUME_OBJECT, i);
@@ -324,7 +324,7 @@ pub fn up_ok(s: &[u8], z: Sizes) -> bool
         return true;
     }
     let state = state::get8(s, z, state::PROCESS, state::STATE_OF, link - 1);
-    if state != 1 {
+    if state != state::RUNNING {
         return false;
     }
     true
@@ -343,7 +343,7 @@ fn ready_at(s: &[u8], z: Sizes, i: Index) -> Count
     ensures { λ r. ⌜ Tally (isReady (memIn z (now (s .entry))) i) r ⌝ }
 {
     let state = state::get8(s, z, state::PROCESS, state::STATE_OF, i);
-    if state == 2 {
+    if state == state::READY {
         return 1;
     }
     0
@@ -355,7 +355,7 @@ fn asleep_at(s: &[u8], z: Sizes, i: Index) -> Count
     ensures { λ r. ⌜ Tally (isAsleep (memIn z (now (s .entry))) i) r ⌝ }
 {
     let state = state::get8(s, z, state::PROCESS, state::STATE_OF, i);
-    if state == 3 {
+    if state == state::ASLEEP {
         return 1;
     }
     0
@@ -368,10 +368,10 @@ fn queueing_at(s: &[u8], z: Sizes, i: Index) -> Count
 {
     let state = state::get8(s, z, state::PROCESS, state::STATE_OF, i);
     let kind = state::get8(s, z, state::PROCESS, state::RESUME_KIND, i);
-    if state != 3 {
+    if state != state::ASLEEP {
         return 0;
     }
-    if kind != 3 {
+    if kind != state::QLOCK {
         return 0;
     }
     1
@@ -414,11 +414,11 @@ fn waits_here(s: &[u8], z: Sizes, q: Index, i: Index) -> bool
     ensures { λ b. ⌜ Decides b (WaitsHere (memIn z (now (s .entry))) q i) ⌝ }
 {
     let state = state::get8(s, z, state::PROCESS, state::STATE_OF, i);
-    if state != 3 {
+    if state != state::ASLEEP {
         return false;
     }
     let kind = state::get8(s, z, state::PROCESS, state::RESUME_KIND, i);
-    if kind != 3 {
+    if kind != state::QLOCK {
         return false;
     }
     let object = state::get16(s, z, state::PROCESS, state::RESUME_OBJECT, i);
@@ -435,7 +435,7 @@ fn member_ok(s: &[u8], z: Sizes, tag: u16, i: Index) -> bool
 {
     if tag == 0 {
         let state = state::get8(s, z, state::PROCESS, state::STATE_OF, i);
-        if state != 2 {
+        if state != state::READY {
             return false;
         }
         return true;

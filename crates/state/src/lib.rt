@@ -110,9 +110,26 @@ pub const NEXITS: u8 = 36;
 
 pub const STATE_OF: u8 = 37;
 
+// what it says
+pub const FREE: u8 = 0;
+
+pub const RUNNING: u8 = 1;
+
+pub const READY: u8 = 2;
+
+pub const ASLEEP: u8 = 3;
+
 pub const RESUME_KIND: u8 = 38;
 
-// the kind of a call that is a `wait`
+// the kinds of calls
+pub const NO_CALL: u8 = 0;
+
+pub const SLEEP: u8 = 1;
+
+pub const TSLEEP: u8 = 2;
+
+pub const QLOCK: u8 = 3;
+
 pub const WAIT: u8 = 4;
 
 pub const RESUME_CONDITION: u8 = 39;

@@ -154,7 +154,7 @@ fn own_ok(s: &[u8], z: Sizes, t: Index) -> bool
         return false;
     }
     let r = state::get8(s, z, state::PROCESS, state::RESUME_KIND, i);
-    if r == 2 {
+    if r == state::TSLEEP {
         return true;
     }
     false
