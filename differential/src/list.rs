@@ -225,7 +225,7 @@ impl List {
     fn compare(&mut self, at: usize) -> Result<(), Difference> {
         self.counts.add(counts::COMPARED, 1);
         let view = View { bytes: self.lent.state(), z: self.lent.z };
-        view.compare().map_err(|why| (at, format!("after it: {why}")))
+        view.compare(self.generator.driver()).map_err(|why| (at, format!("after it: {why}")))
     }
 
     /// A step that may write has left what the machine has no use for.

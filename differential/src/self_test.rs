@@ -29,7 +29,7 @@ const LINES: &str = "start 0;start 0;start 0;start 0;start 0;start 0;\
 /// so that no check finds it, and how it is made.
 type Wrong = (&'static str, bool, fn(&mut Edited));
 
-const WRONG: [Wrong; 19] = [
+const WRONG: [Wrong; 22] = [
     ("the run queue", true, |e| e.swap((RUN_HEAD, 0), NEXT, Some(RUN_TAIL), 0)),
     ("the first waiters for a lock", true, |e| e.swap((LOCK_HEAD, 2), NEXT, Some(LOCK_TAIL), 0)),
     ("the last waiters for a lock", true, |e| e.swap((LOCK_HEAD, 2), NEXT, Some(LOCK_TAIL), 1)),
@@ -45,6 +45,9 @@ const WRONG: [Wrong; 19] = [
     }),
     ("nchild", false, |e| e.flip(NCHILD, e.record(1))),
     ("who waits for an exit", false, |e| e.flip(STATE_OF, e.record(9))),
+    ("the condition of a call", true, |e| e.flip(RESUME_CONDITION, e.record(5))),
+    ("the period of a timer", true, |e| e.set(PERIOD, 1, 1_000_000_000)),
+    ("the Rendez of a timer", true, |e| e.flip(TIMER_RENDEZ, 2)),
     ("the next pid", true, |e| e.set(NEXT_PID, 0, e.get(NEXT_PID, 0) + 1)),
     ("the last NOW", true, |e| e.flip(LAST_NOW, 0)),
     ("a condition", true, |e| e.flip(CONDITION_BIT, 255)),
@@ -164,8 +167,8 @@ impl Edited {
 
 /// What was found, or what was not.
 pub fn run() -> Result<String, String> {
-    let lent = taken()?;
-    let differs = |state: &[u8]| View { bytes: state, z: lent.z }.compare().is_err();
+    let (driver, lent) = taken()?;
+    let differs = |state: &[u8]| View { bytes: state, z: lent.z }.compare(&driver).is_err();
     let is_changed = |state: &[u8]| Before::new(lent.state(), lent.z).step(state).is_err();
     finds(&lent, &WRONG, differs)?;
     finds(&lent, &UNUSED, |state| is_changed(state) && !differs(state))?;
@@ -203,17 +206,17 @@ fn finds(lent: &Lent, all: &[Wrong], is_found: impl Fn(&[u8]) -> bool) -> Result
     Ok(())
 }
 
-/// The state after the list, which is as r9's.
-fn taken() -> Result<Lent, String> {
+/// The driver and the state after the list, which is as r9's.
+fn taken() -> Result<(Driver, Lent), String> {
     let (sizes, mut random) = (sizes::Sizes::DEFAULT, Random::new(1));
     let (mut driver, mut lent) = (Driver::new(sizes), Lent::fresh(&sizes, &mut random)?);
     for line in LINES.split(';').map(str::as_bytes) {
         let expected = Expected::from(&driver.line(line)?);
         let step = bytes::of_line(line).expect("a step");
         lent.step(&step, &mut Message::any(&mut random), &expected)?;
-        View { bytes: lent.state(), z: lent.z }.compare()?;
+        View { bytes: lent.state(), z: lent.z }.compare(&driver)?;
     }
-    Ok(lent)
+    Ok((driver, lent))
 }
 
 /// A write that leaves what was there.

@@ -1,16 +1,14 @@
 //! What a state's bytes hold, read by docs/STATE.md, against what r9's own
 //! structures hold: who runs, the order of every queue, who sleeps where, what
-//! each process is and the exits in its wait queue.  Two parts are not r9's but
-//! the driver's: the conditions, and the counter's reading.
-//!
-//! Not compared, since they show in what r9 does later: the call of who is
-//! switched out, which r9 has on that one's stack, and a kernel timer's period
-//! and Rendez.
+//! each process is and the exits in its wait queue.  Not r9's but the driver's
+//! are the conditions, the counter's reading, what a kernel timer does, and the
+//! call of who is switched out, which r9 has on that one's stack.
 
-use oracle::driver;
+use oracle::driver::{self, Call, Driver};
 use oracle::places::{self, Living, Timer};
 use oracle::sizes::CONDITIONS;
 use outside::layout::*;
+use std::collections::BTreeMap;
 use std::fmt::Debug;
 use std::iter::successors;
 
@@ -32,9 +30,9 @@ pub struct View<'a> {
 
 impl<'a> View<'a> {
     /// The first difference, if there is one.
-    pub fn compare(self) -> Result<(), String> {
+    pub fn compare(self, driver: &Driver) -> Result<(), String> {
         self.compare_queues()?;
-        self.compare_living()
+        self.compare_living(&driver.calls)
     }
 
     /// The same of all but the living and their wait queues, of which bare r9
@@ -50,6 +48,10 @@ impl<'a> View<'a> {
             same(("held, lock", q), self.get(HELD, q), u64::from(places::is_held(q)))?;
             same_list(("lock", q), self.processes(self.get(LOCK_HEAD, q)), places::waiters(q))?;
         }
+        for t in 1..self.z.k {
+            let does = (self.get(PERIOD, t), self.get(TIMER_RENDEZ, t));
+            same(("kernel timer", t), does, places::kernel_timer(t))?;
+        }
         same_list(("the timer queue", 0), self.timers(), places::timers())
     }
 
@@ -61,21 +63,43 @@ impl<'a> View<'a> {
         same(("the next pid", 0), self.get(NEXT_PID, 0), driver::next_pid())?;
         same(("the last NOW", 0), self.get(LAST_NOW, 0), driver::now())?;
         let bits = self.bytes[CONDITION_BIT.at(self.z, 0)..].iter().take(CONDITIONS);
-        same_list(("the conditions", 0), bits.map(|&bit| bit != 0), places::conditions())
+        same_list(("the conditions", 0), bits.copied(), places::conditions().map(u8::from))
     }
 
     /// The living by age, and what each is.
-    fn compare_living(self) -> Result<(), String> {
+    fn compare_living(self, calls: &BTreeMap<u64, Call>) -> Result<(), String> {
+        let mut calls = calls.iter().peekable();
         let mut records = self.chain(self.get(OLDEST, 0), YOUNGER);
         for process in places::living() {
             let record = records.next();
             same(("the living", 0), record.map(|i| self.get(PID, i)), Some(process.pid()))?;
             if let Some(i) = record {
+                let call = calls.next_if(|(pid, _)| **pid == process.pid());
+                self.compare_call(i, &process, call.map(|(_, call)| call))?;
                 self.compare_process(i, &process)?;
                 self.compare_wait(i, &process)?;
             }
         }
         same(("the living", 0), records.next().map(|i| self.get(PID, i)), None)
+    }
+
+    /// The call in which it was switched out: its kind, and the object and the
+    /// condition that such a one has.
+    fn compare_call(self, i: usize, process: &Living, call: Option<&Call>) -> Result<(), String> {
+        let of = |field| self.get(field, i) as usize;
+        let is = match of(RESUME_KIND) {
+            kind @ (1 | 2) => [kind, of(RESUME_OBJECT), of(RESUME_CONDITION)],
+            3 => [3, of(RESUME_OBJECT), 0],
+            kind => [kind, 0, 0],
+        };
+        let must = match call {
+            None => [0, 0, 0],
+            Some(&Call::Sleep { r, c }) => [1, r, c],
+            Some(&Call::Tsleep { r, c, .. }) => [2, r, c],
+            Some(&Call::Qlock { q }) => [3, q, 0],
+            Some(Call::Wait) => [4, 0, 0],
+        };
+        same(("call, process", process.pid() as usize), is, must)
     }
 
     /// Its name, the end of its quantum, and its parent; that one's record too,

@@ -134,6 +134,10 @@ impl Generator {
         self.steps
     }
 
+    pub fn driver(&self) -> &Driver {
+        &self.driver
+    }
+
     /// Take these lines before others.
     pub fn plan(&mut self, lines: impl IntoIterator<Item = String>) {
         self.plan.extend(lines);

@@ -48,7 +48,7 @@ pub struct Parts {
 pub struct KernelTimer {
     pub mode: Cell<(bool, Duration)>,
     timer: Cell<&'static Timer>,
-    rendez: Cell<usize>,
+    pub rendez: Cell<usize>,
 }
 
 static PARTS: Single<OnceCell<Parts>> = Single(OnceCell::new());

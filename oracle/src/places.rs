@@ -1,9 +1,10 @@
 //! What r9's own structures hold of processes, timers and exits, and where; and
-//! the conditions, which are the driver's.  Read, nothing is changed.  Processes
+//! the conditions and what kernel timers do, which are the driver's.  Read, nothing is changed.  Processes
 //! are named by their pids; 0 is none.
 
+use crate::clock;
 use crate::dat::{KNAMELEN, Proc, Waitmsg};
-use crate::host::Host;
+use crate::host::{self, Host};
 use crate::perform::parts;
 use crate::timer::queue::{self, Queued};
 use std::cell::Cell;
@@ -52,6 +53,17 @@ pub enum Timer {
 /// The timer queue from its head: each timer, and its deadline.
 pub fn timers() -> impl Iterator<Item = (Timer, u64)> {
     queue::queued().map(|queued| (which(&queued), queued.when))
+}
+
+/// What a kernel timer other than the clock does: its period in counts, or 0
+/// where it fires once, and the Rendez that it wakes.
+pub fn kernel_timer(t: usize) -> (u64, u64) {
+    let timer = &parts().timers[t];
+    let period = match timer.mode.get() {
+        (true, d) => clock::to_counts(d, host::HZ.0.get()),
+        (false, _) => 0,
+    };
+    (period, timer.rendez.get() as u64)
 }
 
 /// A kernel timer's callback is passed its number, a process's its process.
