@@ -1,11 +1,11 @@
 -- A number is taken out of a chain.
-use mathlib.Core.Path.{_≡_, refl, sym, _∙_}
+use mathlib.Core.Path.{_≡_, sym, _∙_}
 use mathlib.Core.List.{List, [], _∷_, _++_}
-use Prim.Native.Nat.{ℕ, suc, _<_}
+use Prim.Native.Nat.{ℕ, _<_}
 use Rattle.machine.specs.Good.{Each}
 use Rattle.layout.specs.Memory.{alter}
-use Rattle.chain.specs.Lists.{Below, Absent, Distinct, all-both}
-use Rattle.chain.specs.Links.{Links, Chain, links-frame, alter-same, alter-other, all-left, all-right, distinct-left, distinct-right}
+use Rattle.chain.specs.Lists.{Absent, Distinct, all-both}
+use Rattle.chain.specs.Links.{Links, Chain, links-frame, alter-same, alter-other, all-right, distinct-left}
 
 -- the links after the number i, which stands behind t, is taken out
 abbrev pub outLinks : (ℕ → ℕ) → ℕ → ℕ → ℕ → ℕ

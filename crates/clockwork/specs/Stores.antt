@@ -13,8 +13,9 @@ use Rattle.state.specs.Abs.{machineOf}
 use Rattle.state.specs.Places.{sizesIn, memIn, Wrote}
 use Rattle.state.specs.declared.Sizes.{Sizes}
 use Rattle.holds.specs.Holds.{Holds}
-use Rattle.holds.specs.Use.{EachInUse, same-use}
-use Rattle.holds.specs.Touched.{Touched, settled-kin}
+use Rattle.holds.specs.Use.{EachInUse, SameUse, same-use}
+use Rattle.holds.specs.Leftover.{ceased-lasts, lasts-same}
+use Rattle.holds.specs.Touched.{Touched, spares-stores}
 use Rattle.timer.specs.Only.{Owing, owing-after, Only, plain, only-none, only-set}
 use Rattle.timer.specs.Aside.{holds-plain}
 use Rattle.timer.specs.Del.{machineIn}
@@ -60,15 +61,15 @@ became {z} {s} {s′} {ws} {M} o w ok e u q =
     (state-writes (ranges (sizesIn z) (o .holds .sizes)) (o .holds .state) ws ok))
     b
     in
+    let same : SameUse z (memIn z s) (memIn z s′) =
+    same-use (b .same fields.pid refl) (b .same fields.parent refl) (b .same fields.parentAt refl) (b .same fields.isQueued refl) (b .same fields.owner refl)
+    (b .same fields.messageLength refl) (b .same fields.deadline refl) (b .same fields.exitPid refl) (b .same fields.messageByte refl)
+    in
     record {
       holds = k;
       owing = owing-after o k;
       wrote = w;
       memory = d;
       machine = ap (λ (k : Memory). machineOf (sizesIn z) k) d ∙ q;
-      touched = record {
-        spares = record { stores = ws; writable = ok; bytes = w .bytes; inUse = u; settled = settled-kin (record { pids = b .same fields.pid refl; parents = b .same fields.parentAt refl }) };
-        same =
-            same-use (b .same fields.pid refl) (b .same fields.parent refl) (b .same fields.parentAt refl) (b .same fields.isQueued refl) (b .same fields.owner refl) (b .same fields.messageLength refl);
-      };
+      touched = record { spares = spares-stores (o .holds) (w .bytes) ok refl u (ceased-lasts (lasts-same same)); same = same };
     }

@@ -1,7 +1,7 @@
 -- How many are asleep, and `awaken`: what they ask and ensure.
-use mathlib.Core.Path.{_≡_, refl, sym, ap, subst, _∙_}
-use mathlib.Core.List.{List, [], _∷_, _++_}
-use Prim.Native.Nat.{ℕ, zero, suc, _+_, _-_, _≤_, _<_}
+use mathlib.Core.Path.{_≡_, refl, sym, ap, subst}
+use mathlib.Core.List.{List, [], _∷_}
+use Prim.Native.Nat.{ℕ, suc, _+_, _-_, _≤_, _<_}
 use native.Mathlib.Omega.{arith}
 use native.Mathlib.Numerals.{add-one}
 use Rattle.machine.specs.Places.{ready}
@@ -115,6 +115,6 @@ awakened {z} {s} {s₁} {s₂} {i} a l r =
     let e : memIn z s₁ ≡ asleepMem (memIn z s) (asleepIn (memIn z s) - 1) = l .did .memory in
     record {
       did =
-          did-as (did-join (l .did) (r .did) (same-use refl refl refl refl refl refl)) (ap (λ (k : Memory). to fields.asleepCount 0 (asleepIn (memIn z s) - 1) ∷ readyStores k i) e)
+          did-as (did-join (l .did) (r .did) (same-use refl refl refl refl refl refl refl refl refl)) (ap (λ (k : Memory). to fields.asleepCount 0 (asleepIn (memIn z s) - 1) ∷ readyStores k i) e)
           (ap (λ (k : Memory). readyMem k i) e) (ap (ready i) (l .did .machine));
     }

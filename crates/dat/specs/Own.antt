@@ -1,8 +1,8 @@
 -- Who runs, and where a call goes on: what `stop`, `run` and `set_resume` ask and ensure.
 use mathlib.Core.Path.{_≡_, refl, sym, ap, subst, _∙_}
-use mathlib.Core.List.{List, [], _∷_, _++_}
-use mathlib.Core.Option.{Option, none, some}
-use Prim.Native.Nat.{ℕ, zero, suc, _+_, _-_, _≤_, _<_}
+use mathlib.Core.List.{List, [], _∷_}
+use mathlib.Core.Option.{none, some}
+use Prim.Native.Nat.{ℕ, suc, _+_, _≤_, _<_}
 use native.Mathlib.Omega.{arith}
 use native.Mathlib.Numerals.{add-one}
 use Rattle.machine.specs.Machine as machine
@@ -10,7 +10,7 @@ use Rattle.machine.specs.Machine.{process}
 use Rattle.machine.specs.Update.{withUp, withProcess, withResume}
 use Rattle.layout.specs.Table.{slot}
 use Rattle.layout.specs.Memory.{Memory}
-use Rattle.layout.specs.Writes.{Write, to}
+use Rattle.layout.specs.Writes.{to}
 use Rattle.state.specs.Fields as fields
 use Rattle.state.specs.Places.{sizesIn, memIn, PutIn, Wrote}
 use Rattle.state.specs.declared.Sizes.{Sizes}
@@ -23,7 +23,7 @@ use Rattle.exact.specs.Bounds.{InBounds, inside}
 use Rattle.holds.specs.Holds.{Holds}
 use Rattle.holds.specs.Whole.{holds-bounds}
 use Rattle.holds.specs.Use.{usedBy, EachInUse, before}
-use Rattle.holds.specs.Did.{Did, did, did-as, machineIn, same, wrote-2}
+use Rattle.holds.specs.Did.{Did, did, machineIn, same, wrote-2}
 use Rattle.places.specs.Nowhere.{Nowhere}
 use Rattle.places.specs.Others.{others, keeps-with}
 use Rattle.places.specs.Own.{stopMem, stop-machine, stop-placed, stop-nowhere, runMem, run-machine, run-placed, callMem, call-machine, call-placed, call-nowhere}

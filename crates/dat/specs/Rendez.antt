@@ -1,7 +1,7 @@
 -- Rendez: what `wakeup` and `sleep_on` ask and ensure.
 use mathlib.Core.Path.{_≡_, refl, sym, ap, subst, _∙_}
-use mathlib.Core.List.{List, [], _∷_, _++_}
-use mathlib.Core.Option.{Option, none, some}
+use mathlib.Core.List.{List, [], _∷_}
+use mathlib.Core.Option.{none, some}
 use Prim.Native.Nat.{ℕ, zero, suc, _+_, _-_, _≤_, _<_}
 use native.Mathlib.Omega.{arith}
 use native.Mathlib.Numerals.{add-one}
@@ -12,14 +12,14 @@ use Rattle.layout.specs.Table.{slot}
 use Rattle.layout.specs.Memory.{Memory}
 use Rattle.layout.specs.Writes.{Write, to}
 use Rattle.state.specs.Fields as fields
-use Rattle.state.specs.Places.{sizesIn, memIn, PutIn, Wrote, wrote-join}
+use Rattle.state.specs.Places.{sizesIn, memIn, PutIn}
 use Rattle.state.specs.declared.Sizes.{Sizes}
 use Rattle.exact.specs.Bounds.{InBounds, at-most, inside}
 use Rattle.exact.specs.Parts.{sleeper-of, pid-of}
 use Rattle.holds.specs.Holds.{Holds}
 use Rattle.holds.specs.Whole.{holds-bounds}
 use Rattle.holds.specs.Use.{usedBy, EachInUse, before, same-use}
-use Rattle.holds.specs.Did.{Did, did, did-join, did-as, did-nothing, machineIn, same, more, wrote-1, wrote-2}
+use Rattle.holds.specs.Did.{Did, did, did-join, did-as, machineIn, same, more, wrote-2}
 use Rattle.holds.specs.Touched.{Touched, touched-none, touched-did}
 use Rattle.places.specs.Nowhere.{Nowhere}
 use Rattle.places.specs.Others.{others, keeps-with}
@@ -139,7 +139,7 @@ woke-one {z} {s} {s₁} {s₂} {r} {l} a e ne p w =
     let t : TakenOff z s s₁ r i = taken-off a x p in
     let o : sleeper (machineIn z s) r ≡ some i = sleeper-of (holds-bounds (a .holds)) r ∙ rw x in
     let d : Did z s s₂ same same (wakeStores m r i) (wakeMem m r i) (ready i (withSleeper r none (machineIn z s))) =
-    did-as (did-join (t .did) (w .did) (same-use refl refl refl refl refl refl))
+    did-as (did-join (t .did) (w .did) (same-use refl refl refl refl refl refl refl refl refl))
     (ap (λ (k : Memory). to fields.sleeperOf r 0 ∷ awakenStores k i) (t .did .memory))
     (ap (λ (k : Memory). awakenMem k i) (t .did .memory))
     (ap (ready i) (t .did .machine))
@@ -155,7 +155,7 @@ woke-one {z} {s} {s₁} {s₂} {r} {l} a e ne p w =
           ∙ ap (λ (k : ℕ). k ∷ []) (sym (pid-of (holds-bounds (a .holds)) i))
           ∙ sym (wake-some (machineIn z s) r i o .1);
       range = omega (arith, e, at-most (holds-bounds (a .holds)) fields.sleeperOf r);
-      touched = touched-did d (same-use refl refl refl refl refl refl);
+      touched = touched-did d (same-use refl refl refl refl refl refl refl refl refl);
     }
 
 -- `sleep_on`: i, whose call is a `sleep` or `tsleep` on r, goes asleep there, where nobody is.
@@ -214,4 +214,4 @@ slept {z} {s} {s₁} {s₂} {s₃} {i} {r} a o p₁ p₂ =
     (sleep-machine b (h₁ .keeps .placed) w c (a .index) f)
     (EachInUse.more (before (omega arith)) (EachInUse.more (before (w .used)) EachInUse.none))
     in
-    record { did = did-as (did-join (o .did) d (same-use refl refl refl refl refl refl)) refl (ap (λ (k : Memory). sleepMem k i r) e) (ap (withSleeper r (some i)) (o .did .machine)) }
+    record { did = did-as (did-join (o .did) d (same-use refl refl refl refl refl refl refl refl refl)) refl (ap (λ (k : Memory). sleepMem k i r) e) (ap (withSleeper r (some i)) (o .did .machine)) }

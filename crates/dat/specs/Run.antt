@@ -3,14 +3,13 @@ use mathlib.Core.Path.{_≡_, refl, sym, ap, ap₂, subst, _∙_}
 use mathlib.Core.List.{List, [], _∷_, _++_}
 use Prim.Native.Nat.{ℕ, zero, suc, _+_, _-_, _≤_, _<_}
 use native.Mathlib.Omega.{arith}
-use lib.ListN.{length}
 use Rattle.machine.specs.Machine as machine
 use Rattle.machine.specs.Update.{withRun}
 use Rattle.machine.specs.Places.{ready}
 use Rattle.layout.specs.Table.{slot}
-use Rattle.layout.specs.Memory.{Memory, alter, setField, set-twice}
+use Rattle.layout.specs.Memory.{Memory, alter, set-twice}
 use Rattle.layout.specs.Writes.{Write, to, updates}
-use Rattle.chain.specs.Links.{pushFirst, pushLinks, popLast, popLinks, firstLink, rest, chain-head}
+use Rattle.chain.specs.Links.{pushFirst, popLast, firstLink, rest}
 use Rattle.state.specs.Fields as fields
 use Rattle.state.specs.Abs.{runList}
 use Rattle.state.specs.Places.{sizesIn, memIn, PutIn, Wrote, wrote-join}
@@ -19,13 +18,13 @@ use Rattle.rules.specs.Code.{Long}
 use Rattle.exact.specs.Bounds.{InBounds, inside, at-most}
 use Rattle.queue.specs.declared.RunQueue.{RunQueue}
 use Rattle.queue.specs.declared.Popped.{Popped}
-use Rattle.queue.specs.List.{Linked, listOf, linked-run, list-run, empty-list}
+use Rattle.queue.specs.List.{Linked, linked-run, list-run, empty-list}
 use Rattle.queue.specs.Push.{pushWrites, push-writable, PushAsks, PushDone}
 use Rattle.queue.specs.Pop.{popWrites, popHead, PopAsks, PopDone}
-use Rattle.holds.specs.Holds.{Keeps, Holds}
+use Rattle.holds.specs.Holds.{Holds}
 use Rattle.holds.specs.Whole.{holds-bounds}
 use Rattle.holds.specs.Use.{usedBy, EachInUse, before, in-use-runs}
-use Rattle.holds.specs.Did.{Did, did, machineIn, same, WritableIn, writesIn, wrote-1, wrote-2, writable-join, did-nothing}
+use Rattle.holds.specs.Did.{Did, did, machineIn, same, WritableIn, writesIn, wrote-1, wrote-2, writable-join}
 use Rattle.places.specs.Nowhere.{Nowhere}
 use Rattle.places.specs.Others.{others, keeps-with}
 use Rattle.places.specs.Stores.{run-last-used, push-in-use}

@@ -1,12 +1,12 @@
 -- The own waitr: what `wait_on` and `wake_waitr` ask and ensure.
 use mathlib.Core.Path.{_≡_, refl, sym, ap, subst, _∙_}
 use mathlib.Core.Bool.{Bool, true, false, not}
-use mathlib.Core.List.{List, [], _∷_, _++_}
-use Prim.Native.Nat.{ℕ, zero, suc, _+_, _-_, _≤_, _<_}
+use mathlib.Core.List.{List, [], _∷_}
+use Prim.Native.Nat.{ℕ, suc, _<_}
 use native.Mathlib.Omega.{arith}
 use borrow.Author.Tests.{not-true, not-false}
 use lib.Dec.{eqb}
-use Rattle.machine.specs.Machine.{Machine, process, pidOf}
+use Rattle.machine.specs.Machine.{Machine, process}
 use Rattle.machine.specs.Update.{withProcess, withOnWaitr}
 use Rattle.machine.specs.Places.{ready}
 use Rattle.machine.specs.Exits.{wakeWaitr}
@@ -18,13 +18,13 @@ use Rattle.state.specs.Abs.{waitsOn}
 use Rattle.state.specs.Places.{sizesIn, memIn, PutIn}
 use Rattle.state.specs.declared.Sizes.{Sizes}
 use Rattle.exact.specs.Bounds.{InBounds, inside}
-use Rattle.exact.specs.Parts.{waitr-of, pid-of}
+use Rattle.exact.specs.Parts.{waitr-of}
 use Rattle.holds.specs.Holds.{Holds}
 use Rattle.holds.specs.Whole.{holds-bounds}
 use Rattle.holds.specs.Use.{usedBy, EachInUse, before, same-use}
 use Rattle.holds.specs.Did.{Did, did, did-join, did-as, machineIn, same, more}
 use Rattle.holds.specs.Touched.{Touched, touched-none, touched-did}
-use Rattle.places.specs.Nowhere.{Nowhere, waits-state, waits-call}
+use Rattle.places.specs.Nowhere.{Nowhere, waits-state}
 use Rattle.places.specs.Others.{others, keeps-with}
 use Rattle.places.specs.Own.{asleepMem, asleep-nowhere}
 use Rattle.places.specs.Waitr.{stateMem, wait-machine, wait-placed, waits-asleep, unwait-machine, unwait-placed, unwait-nowhere}
@@ -71,7 +71,7 @@ waited {z} {s} {s₁} {s₂} {i} a o p =
     in
     record {
       did =
-          did-as (did-join (o .did) d (same-use refl refl refl refl refl refl)) refl (ap (λ (k : Memory). stateMem k i 3) e)
+          did-as (did-join (o .did) d (same-use refl refl refl refl refl refl refl refl refl)) refl (ap (λ (k : Memory). stateMem k i 3) e)
           (ap (λ (x : Machine). withProcess i (withOnWaitr true (process x i)) x) (o .did .machine));
     }
 
@@ -186,7 +186,7 @@ own-woken {z} {s} {s₁} {s₂} {i} {t} a v e p w =
     let u : OwnOff z s s₁ i = own-off a x p in
     let o : process (machineIn z s) i .onWaitr ≡ true = waitr-of (holds-bounds (a .holds)) i (a .holds .keeps .placed .free i) ∙ x in
     let y : Did z s s₂ same same (ownStores (memIn z s) i) (awakenMem (stateMem (memIn z s) i 2) i) (wakeWaitr i (machineIn z s) .machine) =
-    did-as (did-join (u .did) (w .did) (same-use refl refl refl refl refl refl))
+    did-as (did-join (u .did) (w .did) (same-use refl refl refl refl refl refl refl refl refl))
     (ap (λ (k : Memory). to fields.stateOf i 2 ∷ awakenStores k i) (u .did .memory))
     (ap (λ (k : Memory). awakenMem k i) (u .did .memory))
     (ap (ready i) (u .did .machine) ∙ sym (wakes-yes (machineIn z s) i o))
@@ -198,5 +198,5 @@ own-woken {z} {s} {s₁} {s₂} {i} {t} a v e p w =
       holds = y .holds;
       machine = y .machine;
       asleep = o;
-      touched = touched-did y (same-use refl refl refl refl refl refl);
+      touched = touched-did y (same-use refl refl refl refl refl refl refl refl refl);
     }

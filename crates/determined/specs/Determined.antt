@@ -1,18 +1,22 @@
 -- What the machine uses of a well-formed state, the machine determines.
 use mathlib.Core.Path.{_≡_, refl, sym, ap, subst, _∙_}
-use mathlib.Core.Bool.{Bool, true, false}
-use mathlib.Core.List.{List}
+use mathlib.Core.Bool.{Bool, true, false, false≢true}
+use mathlib.Core.List.{List, [], _∷_}
 use Prim.Native.Nat.{ℕ, _≤_, _<_}
-use borrow.Author.Tests.{ltb-true, ltb-false}
-use lib.Dec.{ltb}
+use native.Mathlib.Omega.{arith}
+use borrow.Author.Tests.{eqb-true, ltb-true, ltb-false}
+use lib.Dec.{eqb, ltb}
+use Rattle.machine.specs.Basics.{elem}
 use Rattle.machine.specs.Machine.{Sizes, Machine}
+use Rattle.machine.specs.Good.{Each}
 use Rattle.layout.specs.Memory.{Memory, mem, mem-past}
 use Rattle.state.specs.Fields as fields
 use Rattle.state.specs.Abs.{sizesOf, memoryOf, machineOf, abs}
-use Rattle.state.specs.WellFormed.{WellFormed}
+use Rattle.state.specs.WellFormed.{isLinked, WellFormed}
 use Rattle.state.specs.declared.Sizes as declared
 use Rattle.holds.specs.Holds.{Holds}
-use Rattle.holds.specs.Use.{usedIn}
+use Rattle.holds.specs.Use.{usedBy, usedIn}
+use Rattle.holds.specs.Leftover.{clearedFields, cleared}
 use Rattle.holds.specs.Whole.{well-holds, holds-bounds}
 use Rattle.determined.specs.Twins.{Formed, Twins}
 use Rattle.determined.specs.Every.{agrees}
@@ -81,3 +85,70 @@ pub used-alike
     → (f i : ℕ)
     → usedIn (sizesOf s′) (memoryOf s′) f i ≡ usedIn (sizesOf s) (memoryOf s) f i
 used-alike s s′ w w′ e f i = ap (λ (v : Sizes). usedIn v (memAt v s′) f i) (same-sizes s s′ e) ∙ uses-same (twins w w′ e) f i
+
+-- What each of a list has, one that is in it has.
+each-elem : (P : ℕ → Type 0) (f : ℕ) (xs : List ℕ) → elem f xs ≡ true → Each P xs → P f
+unfolding elem
+each-elem P f [] e a = absurd (false≢true e)
+each-elem P f (x ∷ xs) e a = go (eqb f x) refl (λ d. each-elem P f xs d (a .1))
+  where
+    go : (b : Bool) → eqb f x ≡ b → (elem f xs ≡ true → P f) → P f
+    go true d again = subst P (sym (eqb-true f x d)) (a .0)
+    go false d again = again (rw d at e)
+
+-- A field that is cleared is 0 where the machine does not use it.
+unused-zero
+    : (s : List ℕ) → WellFormed s → (f i : ℕ) → cleared f ≡ true → usedIn (sizesOf s) (memoryOf s) f i ≡ 0 → memoryOf s f i ≡ 0
+unfolding cleared usedBy
+unused-zero s w f i c =
+    each-elem (λ f. usedIn (sizesOf s) (memoryOf s) f i ≡ 0 → memoryOf s f i ≡ 0) f clearedFields c (
+      (λ e. e),
+      (
+        (λ e. w .rep .tagged .unlinked i .zero (ap (λ (x : ℕ). isLinked x (memoryOf s fields.resumeKind i)) (w .rep .tagged .free i e))),
+        (
+          (λ e. w .rep .idle .records i e .older),
+          (
+            (λ e. w .rep .idle .records i e .younger),
+            (
+              (λ e. w .rep .idle .records i e .exits),
+              (
+                (λ e. w .rep .idle .records i e .nexits),
+                (
+                  (λ e. w .rep .tagged .free i e),
+                  (
+                    (λ e. w .rep .idle .timers i e),
+                    (
+                      (λ e. e),
+                      (
+                        (λ e. w .rep .idle .cells i e),
+                        (
+                          (λ e. e),
+                          tt,
+                        ),
+                      ),
+                    ),
+                  ),
+                ),
+              ),
+            ),
+          ),
+        ),
+      ),
+    )
+
+-- So two well-formed states that hold the same machine hold the same number in every place of such a field.
+pub determined-cleared
+    : (s s′ : List ℕ)
+    → WellFormed s
+    → WellFormed s′
+    → abs s ≡ abs s′
+    → (f i : ℕ)
+    → cleared f ≡ true
+    → memoryOf s′ f i ≡ memoryOf s f i
+determined-cleared s s′ w w′ e f i c = go (ltb 0 (usedIn (sizesOf s) (memoryOf s) f i)) refl
+  where
+    go : (b : Bool) → ltb 0 (usedIn (sizesOf s) (memoryOf s) f i) ≡ b → memoryOf s′ f i ≡ memoryOf s f i
+    go true d = determined s s′ w w′ e f i (ltb-true 0 (usedIn (sizesOf s) (memoryOf s) f i) d)
+    go false d =
+        let u : usedIn (sizesOf s) (memoryOf s) f i ≡ 0 = omega (arith, ltb-false 0 (usedIn (sizesOf s) (memoryOf s) f i) d) in
+        unused-zero s′ w′ f i c (used-alike s s′ w w′ e f i ∙ u) ∙ sym (unused-zero s w f i c u)

@@ -1,11 +1,8 @@
 -- Two memories of one machine hold the same wherever the machine uses it: field by field.
-use mathlib.Core.Path.{_≡_, refl, sym, subst, _∙_}
+use mathlib.Core.Path.{_≡_, refl, sym, _∙_}
 use mathlib.Core.Bool.{Bool, true, false}
-use Prim.Native.Nat.{ℕ, suc, _-_, _/_, _%_, _<_}
+use Prim.Native.Nat.{ℕ, _-_, _/_, _%_, _<_}
 use native.Mathlib.Omega.{arith}
-use native.Mathlib.Nat.{not-suc-le-zero}
-use borrow.Author.Tests.{eqb-true, eqb-false}
-use lib.Dec.{eqb}
 use Rattle.machine.specs.Basics.{if_then_else_}
 use Rattle.machine.specs.Machine.{Sizes}
 use Rattle.layout.specs.Memory.{Memory}
@@ -15,6 +12,7 @@ use Rattle.exact.specs.Bounds.{countOf}
 use Rattle.exact.specs.Resumes.{test-set}
 use Rattle.holds.specs.Holds.{Header}
 use Rattle.holds.specs.Use.{usedBy, usedIn}
+use Rattle.holds.specs.Leftover.{EachFrom, none, _and_, from-at}
 use Rattle.determined.specs.Twins.{Twins, Same, in-header}
 use Rattle.determined.specs.Plain.{same-pid, same-up, same-nextPid, same-ticks, same-lastNow, same-asleep, same-sleeper, same-held, same-period, same-rendez, same-condition}
 use Rattle.determined.specs.Records.{same-parent, same-quantum, same-nchild, same-name, same-call, same-state}
@@ -26,21 +24,6 @@ use Rattle.determined.specs.Index.{same-usedRecords, same-usedCells, sam
 -- Where the machine uses field f, the memories hold the same.
 abbrev Agrees : Sizes → Memory → Memory → ℕ → Type 0
 Agrees z m m′ f = (i : ℕ) → 0 < usedIn z m f i → m′ f i ≡ m f i
-
-infixl 5 _and_
--- What each number below n has.
-data EachBelow (P : ℕ → Type 0) : ℕ → Type 0 where
-  none : EachBelow P 0
-  _and_ : {n : ℕ} → EachBelow P n → P n → EachBelow P (suc n)
-
--- And one of them.
-below-at : {P : ℕ → Type 0} {n : ℕ} → EachBelow P n → (f : ℕ) → f < n → P f
-below-at none f l = absurd (not-suc-le-zero l)
-below-at {P} (_and_ {n = n} e p) f l = go (eqb f n) refl (λ k. below-at e f k)
-  where
-    go : (b : Bool) → eqb f n ≡ b → (f < n → P f) → P f
-    go true q rec = subst P (sym (eqb-true f n q)) p
-    go false q rec = rec (omega (arith, eqb-false f n q))
 
 module _ {z : Sizes} {m m′ : Memory} (w : Twins z m m′) where
   -- A field that is the same everywhere, and one of the header.
@@ -71,7 +54,7 @@ module _ {z : Sizes} {m m′ : Memory} (w : Twins z m m′) where
       go false e u = absurd (omega arith)
 
   -- The table of fields from its first to its last.
-  every : EachBelow (Agrees z m m′) 53
+  every : EachFrom (Agrees z m m′) 0 53
   unfolding usedBy
   every =
       none
@@ -131,4 +114,4 @@ module _ {z : Sizes} {m m′ : Memory} (w : Twins z m m′) where
 
   -- So of every field of the table.
   pub agrees : (f i : ℕ) → f < 53 → 0 < usedIn z m f i → m′ f i ≡ m f i
-  agrees f i l = below-at every f l i
+  agrees f i l = from-at every f (omega arith) l i

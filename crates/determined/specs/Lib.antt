@@ -10,4 +10,5 @@ pub mod Ages
 pub mod Index
 pub mod Every
 pub mod Uses
+pub mod Bytes
 pub mod Determined

@@ -16,7 +16,7 @@ use Rattle.state.specs.WellFormed.{markValue, Queues, Tagged, Cells, Ages, Well
 use Rattle.rules.specs.Facts.{Facts}
 use Rattle.rules.specs.Code.{memIn, Whole, Decides}
 use Rattle.exact.specs.Bounds.{InBounds, in-bounds}
-use Rattle.exact.specs.FactsRep.{facts-rep}
+use Rattle.exact.specs.FactsRep.{facts-rep, facts-idle}
 use Rattle.exact.specs.FactsGood.{facts-good}
 use Rattle.exact.specs.WellFacts.{well-facts}
 
@@ -37,7 +37,7 @@ well-checked {s} w =
       mark = w .rep .mark;
       layout = w .rep .layout;
       facts =
-          well-facts (in-bounds (w .rep .sizes) (w .rep .state)) (w .rep .queues) (w .rep .tagged) (w .rep .cells) (w .rep .ages) (w .rep .index) (w .good);
+          well-facts (in-bounds (w .rep .sizes) (w .rep .state)) (w .rep .queues) (w .rep .tagged) (w .rep .cells) (w .rep .ages) (w .rep .index) (w .rep .idle) (w .good);
     }
 
 pub checked-well : {s : List ℕ} → Checked (sizesOf s) s → WellFormed s
@@ -59,6 +59,7 @@ checked-well {s} c =
             cells = r .2;
             ages = r .3;
             index = c .facts .index;
+            idle = facts-idle b (c .facts .idle);
           };
       good = facts-good b (c .facts);
     }

@@ -14,8 +14,8 @@ use Rattle.layout.specs.Memory.{Memory}
 use Rattle.chain.specs.Lists.{all-map}
 use Rattle.state.specs.Fields as fields
 use Rattle.state.specs.Abs.{isSet, waiterList, timerList, exitList}
-use Rattle.state.specs.WellFormed.{Used, Tagged, Queues, Cells, Ages, ageList}
-use Rattle.rules.specs.Facts.{sumBelow, UnlinkedAt, Facts, WaitsHere}
+use Rattle.state.specs.WellFormed.{Used, Tagged, Queues, Cells, Ages, Vacant, Idle, ageList}
+use Rattle.rules.specs.Facts.{sumBelow, UnlinkedAt, IdleOk, Facts, WaitsHere}
 use Rattle.exact.specs.Sums.{all-met-past, family-met-past, sum-some}
 use Rattle.exact.specs.Bounds.{InBounds, inside, at-most}
 use Rattle.exact.specs.Resumes.{set-test, unset-test}
@@ -127,3 +127,26 @@ module _ {z : Sizes} {m : Memory} (b : InBounds z m) (f : Facts z m) where
   -- The facts say how the bytes represent their machine.
   pub facts-rep : Queues z m × Tagged z m × Cells z m × Ages z m
   facts-rep = (facts-queues, facts-tagged, facts-cells, facts-ages)
+
+-- What is free has nothing, and past the last of each there is nothing.
+pub facts-idle : {z : Sizes} {m : Memory} → InBounds z m → IdleOk z m → Idle m
+facts-idle {z} {m} b f =
+    record {
+      records = λ i e. vacant i e (ltb i (z .processes)) refl;
+      cells = λ c e. cell c e (ltb c (z .cells)) refl;
+      timers = λ t e. timer t e (ltb t (z .timers + z .processes)) refl;
+    }
+  where
+    vacant : (i : ℕ) → m fields.pid i ≡ 0 → (c : Bool) → ltb i (z .processes) ≡ c → Vacant m i
+    vacant i e true l = f .records i (ltb-true i (z .processes) l) e
+    vacant i e false l =
+        let k : z .processes ≤ i = ltb-false i (z .processes) l in
+        record { older = b .past fields.older i k; younger = b .past fields.younger i k; exits = b .past fields.exits i k; nexits = b .past fields.nexits i k }
+
+    cell : (c : ℕ) → m fields.owner c ≡ 0 → (d : Bool) → ltb c (z .cells) ≡ d → m fields.cellNext c ≡ 0
+    cell c e true l = f .cells c (ltb-true c (z .cells) l) e
+    cell c e false l = b .past fields.cellNext c (ltb-false c (z .cells) l)
+
+    timer : (t : ℕ) → m fields.isQueued t ≡ 0 → (d : Bool) → ltb t (z .timers + z .processes) ≡ d → m fields.timerNext t ≡ 0
+    timer t e true l = f .timers t (ltb-true t (z .timers + z .processes) l) e
+    timer t e false l = b .past fields.timerNext t (ltb-false t (z .timers + z .processes) l)

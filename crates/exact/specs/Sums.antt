@@ -1,16 +1,16 @@
 -- Sums and counts over the numbers below n, and lists of distinct numbers that meet everyone because they are as many.
 use mathlib.Core.Path.{_≡_, refl, sym, ap, subst, _∙_}
 use mathlib.Core.Bool.{Bool, true, false}
-use mathlib.Core.List.{List, [], _∷_, _++_}
+use mathlib.Core.List.{List, [], _∷_}
 use Prim.Native.Nat.{ℕ, zero, suc, _+_, _≤_, _<_}
 use native.Mathlib.Omega.{arith}
 use native.Mathlib.Nat.{not-suc-le-zero}
 use borrow.Author.Tests.{eqb-true, eqb-false, eq-eqb, ne-eqb, ltb-true, ltb-false}
 use lib.Dec.{eqb, ltb}
 use lib.ListN.{length}
-use Rattle.machine.specs.Basics.{if_then_else_, count}
+use Rattle.machine.specs.Basics.{count}
 use Rattle.machine.specs.Good.{Each}
-use Rattle.lists.specs.Lists.{bit, count-append, each-count, count-each}
+use Rattle.lists.specs.Lists.{bit, each-count}
 use Rattle.chain.specs.Lists.{Below, Absent, Distinct}
 use Rattle.rules.specs.Facts.{countBelow, sumBelow}
 

@@ -1,15 +1,14 @@
 -- The list of the first values of a function.
-use mathlib.Core.Path.{_≡_, refl, sym, ap, ap₂, subst, _∙_}
+use mathlib.Core.Path.{_≡_, refl, sym, ap, ap₂, _∙_}
 use mathlib.Core.Bool.{Bool, true, false}
 use mathlib.Core.List.{List, [], _∷_, map}
-use mathlib.Core.Option.{Option, none, some}
+use mathlib.Core.Option.{some}
 use Prim.Native.Nat.{ℕ, zero, suc, _+_, _≤_, _<_}
 use native.Mathlib.Omega.{arith}
-use native.Mathlib.Nat.{not-suc-le-zero, le-of-suc-le-suc, zero-add}
-use borrow.Author.Tests.{eqb-true, eq-eqb, ne-eqb}
+use native.Mathlib.Nat.{not-suc-le-zero, le-of-suc-le-suc}
+use borrow.Author.Tests.{eqb-true, eq-eqb}
 use lib.Dec.{eqb}
-use lib.ListN.{length, getD}
-use Rattle.machine.specs.Basics.{if_then_else_, count, countThat, concatMap, present, numbersFrom}
+use Rattle.machine.specs.Basics.{count, countThat, concatMap}
 use Rattle.machine.specs.Good.{Each, runningIn}
 use Rattle.chain.specs.Lists.{Distinct}
 use Rattle.state.specs.Abs.{table, linkTo}

@@ -17,7 +17,7 @@ use Rattle.chain.specs.Links.{Links}
 use Rattle.chain.specs.Ordered.{Sorted}
 use Rattle.state.specs.Fields as fields
 use Rattle.state.specs.Abs.{linkTo, isSet, runList, waiterList, timerList, exitList, processAt, machineOf}
-use Rattle.state.specs.WellFormed.{Used, Tagged, Queues, Cells, Ages, Index, ageList}
+use Rattle.state.specs.WellFormed.{Used, Tagged, Queues, Cells, Ages, Index, ageList, Idle}
 use Rattle.rules.specs.Facts.{sumBelow, Facts, HeaderOk, RecordOk, UsedOk, CallOk, LockOk, TimerOk, TimersOk, AgesOk, isReady, isQueueing}
 use Rattle.exact.specs.Sums.{bit-true, sum-part, sum-some, met-all, met-family, family-most}
 use Rattle.exact.specs.Tables.{table-each, map-each, count-link, link-some}
@@ -195,8 +195,8 @@ module _ {z : Sizes} {m : Memory} (b : InBounds z m) (qs : Queues z m) (t : Tagg
   well-nchild : (j : ℕ) → Used m j → m fields.nchild j ≡ children (machineOf z m) (m fields.pid j)
   well-nchild j u = sym (ap (λ (p : Process). p .nchild) (used-of b j u)) ∙ g .nchild j (lives j u) ∙ ap (children (machineOf z m)) (pid-of b j)
 
-  well-all : Index z m → Facts z m
-  well-all index =
+  well-all : Index z m → Idle m → Facts z m
+  well-all index idle =
       record {
         header = well-header;
         records = well-record;
@@ -222,8 +222,9 @@ module _ {z : Sizes} {m : Memory} (b : InBounds z m) (qs : Queues z m) (t : Tagg
         kin = λ i l u j k v. ages .parentAt i j u v;
         nchild = λ j l u. well-nchild j u ∙ children-of z m (m fields.pid j);
         index = index;
+        idle = record { records = λ i l. idle .records i; cells = λ c l. idle .cells c; timers = λ x l. idle .timers x };
       }
 
 -- What a well-formed state says has the facts hold.
-pub well-facts : {z : Sizes} {m : Memory} → InBounds z m → Queues z m → Tagged z m → Cells z m → Ages z m → Index z m → Good (machineOf z m) → Facts z m
-well-facts b qs t cs ages index g = well-all b qs t cs ages g index
+pub well-facts : {z : Sizes} {m : Memory} → InBounds z m → Queues z m → Tagged z m → Cells z m → Ages z m → Index z m → Idle m → Good (machineOf z m) → Facts z m
+well-facts b qs t cs ages index idle g = well-all b qs t cs ages g index idle

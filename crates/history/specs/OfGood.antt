@@ -3,15 +3,15 @@ use mathlib.Core.Path.{_≡_, refl, sym, subst}
 use mathlib.Core.Bool.{Bool, true, false}
 use mathlib.Core.List.{List, [], _∷_}
 use mathlib.Core.Option.{some}
-use Prim.Native.Nat.{ℕ, zero, suc, _+_, _≤_, _<_}
+use Prim.Native.Nat.{ℕ, zero, suc, _<_}
 use native.Mathlib.Omega.{arith}
 use borrow.Author.Tests.{ltb-true, ltb-false}
 use lib.Dec.{ltb}
 use lib.ListN.{length, getD, List·getD-eq-default}
-use Rattle.machine.specs.Machine.{Machine, Process, Sizes, Resume, nothing, inSleep, inTsleep, inQlock, inWait, free, process, pidOf, openMachine}
+use Rattle.machine.specs.Machine.{Machine, Process, Sizes, Resume, nothing, inSleep, inTsleep, inQlock, inWait, free, process, openMachine}
 use Rattle.machine.specs.Step.{Step}
 use Rattle.machine.specs.StepOf.{stepOf, outcomeOf}
-use Rattle.machine.specs.Good.{Good, Each, ProcessInRange, ResumeInRange, InOnePlace}
+use Rattle.machine.specs.Good.{Good, Each, ProcessInRange, ResumeInRange}
 use Rattle.history.specs.Sound.{CallFits, Sound}
 use Rattle.history.specs.Kept.{sound-gives}
 

@@ -9,10 +9,11 @@ use Rattle.layout.specs.Writes.{State, Write, to, writes, updates, Writable, wr
 use Rattle.state.specs.Fields as fields
 use Rattle.state.specs.Abs.{machineOf}
 use Rattle.state.specs.Ranges.{ranges}
-use Rattle.state.specs.Places.{sizesIn, memIn, totalIn, PutIn, Wrote, wrote-more}
+use Rattle.state.specs.Places.{sizesIn, memIn, PutIn, Wrote, wrote-more}
 use Rattle.state.specs.declared.Sizes.{Sizes}
 use Rattle.holds.specs.Holds.{Keeps, Holds}
-use Rattle.holds.specs.Use.{EachInUse, none, SameUse, fewer-same, between-first, in-use-join}
+use Rattle.holds.specs.Use.{EachInUse, SameUse, fewer-same, between-first, updates-spare}
+use Rattle.holds.specs.Leftover.{Spared, spared-join}
 
 -- The bytes after stores, and that stores are in range.
 abbrev pub writesIn : Sizes → List ℕ → List Write → List ℕ
@@ -31,15 +32,31 @@ same n = n
 abbrev pub more : ℕ → ℕ
 more n = suc n
 
--- The operation took bytes s to s′ by the stores ws, each in range and to what the machine uses before or after: then the memory is k and
--- the machine a; what was kept is kept, with `after n` owed where `before n` were.
+-- The operation took bytes s to s′ by the stores ws, each in range: then the memory is k and the machine a; what was kept is kept, with
+-- `after n` owed where `before n` were; and what the machine uses neither before nor after stays.
 pub record Did (z : Sizes) (s s′ : List ℕ) (before after : ℕ → ℕ) (ws : List Write) (k : Memory) (a : Machine) : Type 0 where
   pub holds : (n : ℕ) → Holds z s (before n) → Holds z s′ (after n)
   pub bytes : s′ ≡ writesIn z s ws
   pub writable : WritableIn z ws
   pub memory : memIn z s′ ≡ k
   pub machine : machineIn z s′ ≡ a
-  pub inUse : EachInUse z (memIn z s) k ws
+  pub spared : Spared z (memIn z s) k
+
+-- Stores to what is used leave the rest.
+pub spared-by : {z : Sizes} {m k : Memory} {ws : List Write} → updates m ws ≡ k → EachInUse z m k ws → Spared z m k
+spared-by {m = m} e u = record { spared = λ f i a b. ap (λ (x : Memory). x f i) (sym e) ∙ updates-spare m u f i a b }
+
+-- And stores to bytes, that leave the memory k.
+pub spared-stores
+    : {z : Sizes} {s s′ : List ℕ} {n : ℕ} {ws : List Write} {k : Memory}
+    → Holds z s n
+    → s′ ≡ writesIn z s ws
+    → WritableIn z ws
+    → memIn z s′ ≡ k
+    → EachInUse z (memIn z s) k ws
+    → Spared z (memIn z s) k
+spared-stores {z} {ws = ws} h b ok e u =
+    spared-by (sym (written (ranges (sizesIn z) (h .sizes)) (h .state) ws ok) ∙ ap (memIn z) (sym b) ∙ e) u
 
 -- From the stores: that they are in range, what they make of the memory, that this keeps all, its machine, and that they go to what is used.
 pub did
@@ -69,7 +86,7 @@ did {z} {s} {s′} {owed} {before} {after} ws k a h b ok e keeps m u =
       writable = ok;
       memory = x;
       machine = ap (machineOf (sizesIn z)) x ∙ m;
-      inUse = u;
+      spared = spared-by e u;
     }
 
 -- Stores in range, one run after another.
@@ -94,8 +111,8 @@ did-join {z} {s} {s₁} {s₂} {ws = ws} {ws′ = ws′} {k = k} {k′ = k′} p
       writable = writable-join z ws ws′ (p .writable) (q .writable);
       memory = q .memory;
       machine = q .machine;
-      inUse =
-          in-use-join (between-first (fewer-same u)) (p .inUse) (subst (λ (m : Memory). EachInUse z m k′ ws′) (p .memory) (q .inUse));
+      spared =
+          spared-join (p .spared) (subst (λ (m : Memory). Spared z m k′) (p .memory) (q .spared)) (between-first (fewer-same u));
     }
 
 -- The same, said of other stores, memory and machine.
@@ -113,13 +130,12 @@ did-as {z} {s} {ws = ws} {k′ = k′} p e d c =
       writable = subst (WritableIn z) e (p .writable);
       memory = p .memory ∙ d;
       machine = p .machine ∙ c;
-      inUse =
-          subst (EachInUse z (memIn z s) k′) e (subst (λ (m : Memory). EachInUse z (memIn z s) m ws) d (p .inUse));
+      spared = subst (Spared z (memIn z s)) d (p .spared);
     }
 
 -- Nothing done.
 pub did-nothing : {z : Sizes} {s : List ℕ} {f : ℕ → ℕ} → Did z s s f f [] (memIn z s) (machineIn z s)
-did-nothing = record { holds = λ n x. x; bytes = refl; writable = tt; memory = refl; machine = refl; inUse = none }
+did-nothing = record { holds = λ n x. x; bytes = refl; writable = tt; memory = refl; machine = refl; spared = record { spared = λ f i a b. refl } }
 
 -- A store as a run of one, and of two.
 pub wrote-1 : {z : Sizes} {s s₁ : List ℕ} {f i v : ℕ} → PutIn z s s₁ (field fields.layout1 f) i v → Wrote z s s₁ (to f i v ∷ [])

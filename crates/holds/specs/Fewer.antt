@@ -12,7 +12,7 @@ use Rattle.state.specs.Fields as fields
 use Rattle.state.specs.Abs.{isSet}
 use Rattle.state.specs.declared.Sizes.{Sizes}
 use Rattle.exact.specs.Resumes.{set-test}
-use Rattle.holds.specs.Use.{fromTo, kinUse, usedBy, Fewer, Smaller}
+use Rattle.holds.specs.Use.{fromTo, kinUse, usedBy, Calm, Fewer, Smaller}
 
 -- What is 0 in g is 0 in k.
 abbrev pub Zeros : (g k : ℕ → ℕ) → Type 0
@@ -73,14 +73,14 @@ pub smaller-by
     : {z : Sizes} {m m′ : Memory}
     → Shrunk (m fields.pid) (m′ fields.pid)
     → m′ fields.parent ≡ m fields.parent
-    → m′ fields.parentAt ≡ m fields.parentAt
     → Zeros (m fields.isQueued) (m′ fields.isQueued)
     → Zeros (m fields.owner) (m′ fields.owner)
-    → ((c : ℕ) → m′ fields.messageLength c ≡ m fields.messageLength c)
+    → Calm m m′
     → Smaller z m m′
 unfolding usedBy
-smaller-by {z} {m} {m′} p r n q o l =
+smaller-by {z} {m} {m′} p r q o l =
     record {
+      calm = l;
       smaller = λ f i.
           by-test (eqb f fields.parentAt) (kin i)
           (by-test (fromTo fields.pid fields.resumeObject f) (zeros i)
@@ -89,7 +89,7 @@ smaller-by {z} {m} {m′} p r n q o l =
           (by-test (fromTo fields.deadline fields.isQueued f) (q i)
           (by-test (fromTo fields.exitPid fields.messageLength f) (o i)
           (by-test (eqb f fields.messageByte)
-          (byte-zero (m fields.owner (i / 127)) (m′ fields.owner (i / 127)) (m fields.messageLength (i / 127)) (m′ fields.messageLength (i / 127)) (i % 127) (o (i / 127)) (l (i / 127)))
+          (byte-zero (m fields.owner (i / 127)) (m′ fields.owner (i / 127)) (m fields.messageLength (i / 127)) (m′ fields.messageLength (i / 127)) (i % 127) (o (i / 127)) (ap (λ (g : ℕ → ℕ). g (i / 127)) (l .lengths)))
           (λ e. e)))))));
     }
   where
@@ -97,17 +97,20 @@ smaller-by {z} {m} {m′} p r n q o l =
     zeros = shrunk-zeros p
 
     kin : (i : ℕ) → kinUse (m fields.pid) (m fields.parent) (m fields.parentAt) i ≡ 0 → kinUse (m′ fields.pid) (m′ fields.parent) (m′ fields.parentAt) i ≡ 0
-    kin i e = rw (r, n) (kin-fewer (m fields.pid) (m′ fields.pid) (m fields.parent) (m fields.parentAt) i p e)
+    kin i e = rw (r, l .parents) (kin-fewer (m fields.pid) (m′ fields.pid) (m fields.parent) (m fields.parentAt) i p e)
 
 -- And no record is freed.
 pub fewer-by
     : {z : Sizes} {m m′ : Memory}
     → m′ fields.pid ≡ m fields.pid
     → m′ fields.parent ≡ m fields.parent
-    → m′ fields.parentAt ≡ m fields.parentAt
     → Zeros (m fields.isQueued) (m′ fields.isQueued)
     → Zeros (m fields.owner) (m′ fields.owner)
-    → ((c : ℕ) → m′ fields.messageLength c ≡ m fields.messageLength c)
+    → Calm m m′
     → Fewer z m m′
-fewer-by {z} {m} {m′} p r n q o l =
-    record { fewer = smaller-by {z = z} {m = m} {m′ = m′} (λ i. inr (ap (λ (g : ℕ → ℕ). g i) p)) r n q o l .smaller; kin = record { pids = p; parents = n } }
+fewer-by {z} {m} {m′} p r q o l =
+    record {
+      fewer = smaller-by {z = z} {m = m} {m′ = m′} (λ i. inr (ap (λ (g : ℕ → ℕ). g i) p)) r q o l .smaller;
+      kin = record { pids = p };
+      calm = l;
+    }

@@ -1,16 +1,14 @@
 -- Each group of what a memory keeps rests on a few fields: where they are as they were, it is kept.
-use mathlib.Core.Path.{_≡_, refl, sym, ap, subst, _∙_}
-use mathlib.Core.List.{List, reverse}
-use Prim.Native.Nat.{ℕ, suc, _+_, _-_, _*_, _<_, _≤_}
+use mathlib.Core.Path.{_≡_, sym, ap, _∙_}
+use Prim.Native.Nat.{ℕ, suc}
 use Rattle.machine.specs.Machine.{Sizes, asleep}
 use Rattle.machine.specs.Good.{Each}
 use Rattle.layout.specs.Memory.{Memory}
 use Rattle.chain.specs.Lists.{all-map}
-use Rattle.chain.specs.Links.{Links, Chain, Queue}
 use Rattle.state.specs.Fields as fields
 use Rattle.state.specs.Abs.{runList, waiterList, timerList, exitList, machineOf}
-use Rattle.state.specs.WellFormed.{Used, Cells, Ages, Index, ageList, Rising, inUse}
-use Rattle.rules.specs.Facts.{RunOk, SleepsHere, WaitsHere}
+use Rattle.state.specs.WellFormed.{Cells, Ages, Index, ageList}
+use Rattle.rules.specs.Facts.{SleepsHere, WaitsHere}
 use Rattle.holds.specs.Holds.{Header, Placed, Timed}
 
 module _ {z : Sizes} {m m′ : Memory} where

@@ -1,5 +1,5 @@
 -- What the memory of a state keeps between the operations of a step, group by group. A step may have taken a process off its place and
--- not yet put it on another, so the groups ask less than well-formedness, and more than `Rep`: the calls of sleepers and waiters fit.
+-- not yet put it on another, so the groups ask less than well-formedness (and nothing of what is free), but that the calls of sleepers and waiters fit.
 use mathlib.Core.Path.{_≡_}
 use mathlib.Core.List.{List}
 use Prim.Native.Nat.{ℕ, suc, _+_, _<_}

@@ -5,5 +5,6 @@ pub mod Parts
 pub mod Frames
 pub mod Use
 pub mod Fewer
+pub mod Leftover
 pub mod Did
 pub mod Touched

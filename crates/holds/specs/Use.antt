@@ -23,6 +23,10 @@ fromTo first last f = not (ltb f first) && not (ltb last f)
 abbrev pub kinUse : (pids parents links : ℕ → ℕ) → ℕ → ℕ
 kinUse pids parents links i = if eqb (parents i) 0 || eqb (pids (links i - 1)) (parents i) then pids i else 0
 
+-- The bytes of a message that has so many.
+abbrev pub byteUse : (owners lengths : ℕ → ℕ) → ℕ → ℕ
+byteUse owners lengths i = if isSet (owners (i / 127)) then lengths (i / 127) - i % 127 else 0
+
 -- Whether the machine may use field f of number i: 0 where it does not. It does not use the fields and the name of a free record, what a
 -- free cell keeps, the bytes behind a message, the deadline and the link of a timer that is not queued, and a setting of a process's own
 -- timer. Of a record in use it uses all but the link to a parent that has gone; what else such a record does not need is 0 (`Blank`, `NoLink`).
@@ -40,7 +44,7 @@ usedBy timers pids parents links queued owners lengths f i =
     then queued i
     else if fromTo fields.exitPid fields.messageLength f
     then owners i
-    else if eqb f fields.messageByte then (if isSet (owners (i / 127)) then lengths (i / 127) - i % 127 else 0) else 1
+    else if eqb f fields.messageByte then byteUse owners lengths i else 1
 
 -- At the machine's sizes, and at those that the code carries.
 abbrev pub usedIn : machine.Sizes → Memory → ℕ → ℕ → ℕ
@@ -49,36 +53,62 @@ usedIn z m = usedBy (z .timers) (m fields.pid) (m fields.parent) (m fields.paren
 abbrev pub used : Sizes → Memory → ℕ → ℕ → ℕ
 used z m = usedIn (sizesIn z) m
 
--- Nobody is made or freed, and the links to parents stay.
+-- Nobody is made or freed.
 pub record SameKin (m m′ : Memory) : Type 0 where
   pub pids : m′ fields.pid ≡ m fields.pid
-  pub parents : m′ fields.parentAt ≡ m fields.parentAt
 
 pub kin-join : {m m₁ m₂ : Memory} → SameKin m m₁ → SameKin m₁ m₂ → SameKin m m₂
-kin-join p q = record { pids = q .pids ∙ p .pids; parents = q .parents ∙ p .parents }
+kin-join p q = record { pids = q .pids ∙ p .pids }
 
 pub kin-same : {m m′ : Memory} → m′ ≡ m → SameKin m m′
-kin-same e = record { pids = ap (λ (x : Memory). x fields.pid) e; parents = ap (λ (x : Memory). x fields.parentAt) e }
+kin-same e = record { pids = ap (λ (x : Memory). x fields.pid) e }
 
 pub kin-at : {m k m′ : Memory} → m′ ≡ k → SameKin m k → SameKin m m′
 kin-at {m} e h = subst (SameKin m) (sym e) h
+
+-- The links to parents stay, and the deadlines and what the cells keep.
+pub record Calm (m m′ : Memory) : Type 0 where
+  pub parents : m′ fields.parentAt ≡ m fields.parentAt
+  pub deadlines : m′ fields.deadline ≡ m fields.deadline
+  pub exitPids : m′ fields.exitPid ≡ m fields.exitPid
+  pub lengths : m′ fields.messageLength ≡ m fields.messageLength
+  pub bytes : m′ fields.messageByte ≡ m fields.messageByte
+
+pub calm-join : {m m₁ m₂ : Memory} → Calm m m₁ → Calm m₁ m₂ → Calm m m₂
+calm-join p q =
+    record {
+      parents = q .parents ∙ p .parents;
+      deadlines = q .deadlines ∙ p .deadlines;
+      exitPids = q .exitPids ∙ p .exitPids;
+      lengths = q .lengths ∙ p .lengths;
+      bytes = q .bytes ∙ p .bytes;
+    }
+
+pub calm-none : {m : Memory} → Calm m m
+calm-none = record { parents = refl; deadlines = refl; exitPids = refl; lengths = refl; bytes = refl }
+
+pub calm-same : {m m′ : Memory} → m′ ≡ m → Calm m m′
+calm-same {m} e = subst (Calm m) (sym e) calm-none
 
 -- The same is used in m′ as in m; no more than in m, with nobody freed, or with somebody; and in m₁ no more than in m and m₂ together.
 pub record SameUse (z : Sizes) (m m′ : Memory) : Type 0 where
   pub same : used z m′ ≡ used z m
   pub kin : SameKin m m′
+  pub calm : Calm m m′
 
 pub record Fewer (z : Sizes) (m m′ : Memory) : Type 0 where
   pub fewer : (f i : ℕ) → used z m f i ≡ 0 → used z m′ f i ≡ 0
   pub kin : SameKin m m′
+  pub calm : Calm m m′
 
 pub record Smaller (z : Sizes) (m m′ : Memory) : Type 0 where
   pub smaller : (f i : ℕ) → used z m f i ≡ 0 → used z m′ f i ≡ 0
+  pub calm : Calm m m′
 
 pub record Between (z : Sizes) (m m₁ m₂ : Memory) : Type 0 where
   pub between : (f i : ℕ) → used z m f i ≡ 0 → used z m₂ f i ≡ 0 → used z m₁ f i ≡ 0
 
--- What is used goes by six fields.
+-- What is used goes by six fields; three more are not read where something ceases to be used.
 pub same-use
     : {z : Sizes} {m m′ : Memory}
     → m′ fields.pid ≡ m fields.pid
@@ -87,20 +117,29 @@ pub same-use
     → m′ fields.isQueued ≡ m fields.isQueued
     → m′ fields.owner ≡ m fields.owner
     → m′ fields.messageLength ≡ m fields.messageLength
+    → m′ fields.deadline ≡ m fields.deadline
+    → m′ fields.exitPid ≡ m fields.exitPid
+    → m′ fields.messageByte ≡ m fields.messageByte
     → SameUse z m m′
-same-use {z} a p l b c d = record { same = λ j. usedBy (z .timers) (a j) (p j) (l j) (b j) (c j) (d j); kin = record { pids = a; parents = l } }
+same-use {z} a p l b c d t e x =
+    record {
+      same = λ j. usedBy (z .timers) (a j) (p j) (l j) (b j) (c j) (d j);
+      kin = record { pids = a };
+      calm = record { parents = l; deadlines = t; exitPids = e; lengths = d; bytes = x };
+    }
 
 pub same-join : {z : Sizes} {m m₁ m₂ : Memory} → SameUse z m m₁ → SameUse z m₁ m₂ → SameUse z m m₂
-same-join p q = record { same = q .same ∙ p .same; kin = kin-join (p .kin) (q .kin) }
+same-join p q = record { same = q .same ∙ p .same; kin = kin-join (p .kin) (q .kin); calm = calm-join (p .calm) (q .calm) }
 
 pub fewer-same : {z : Sizes} {m m′ : Memory} → SameUse z m m′ → Fewer z m m′
-fewer-same e = record { fewer = λ f i a. ap (λ (g : ℕ → ℕ → ℕ). g f i) (e .same) ∙ a; kin = e .kin }
+fewer-same e = record { fewer = λ f i a. ap (λ (g : ℕ → ℕ → ℕ). g f i) (e .same) ∙ a; kin = e .kin; calm = e .calm }
 
 pub fewer-join : {z : Sizes} {m m₁ m₂ : Memory} → Fewer z m m₁ → Fewer z m₁ m₂ → Fewer z m m₂
-fewer-join p q = record { fewer = λ f i a. q .fewer f i (p .fewer f i a); kin = kin-join (p .kin) (q .kin) }
+fewer-join p q =
+    record { fewer = λ f i a. q .fewer f i (p .fewer f i a); kin = kin-join (p .kin) (q .kin); calm = calm-join (p .calm) (q .calm) }
 
 pub smaller-join : {z : Sizes} {m m₁ m₂ : Memory} → Fewer z m m₁ → Smaller z m₁ m₂ → Smaller z m m₂
-smaller-join p q = record { smaller = λ f i a. q .smaller f i (p .fewer f i a) }
+smaller-join p q = record { smaller = λ f i a. q .smaller f i (p .fewer f i a); calm = calm-join (p .calm) (q .calm) }
 
 pub between-smaller : {z : Sizes} {m m₁ m₂ : Memory} → Smaller z m m₁ → Between z m m₁ m₂
 between-smaller p = record { between = λ f i a b. p .smaller f i a }
@@ -125,22 +164,6 @@ before h = record { either = λ a b. omega (arith, h, a) }
 
 pub after : {z : Sizes} {m m′ : Memory} {w : Write} → 0 < used z m′ (w .field) (w .index) → InUse z m m′ w
 after h = record { either = λ a b. omega (arith, h, b) }
-
--- Stores after stores.
-wider : {z : Sizes} {m m₁ m₂ : Memory} {w : Write} → Between z m m₁ m₂ → InUse z m m₁ w → InUse z m m₂ w
-wider {w = w} t u = record { either = λ a b. u .either a (t .between (w .field) (w .index) a b) }
-
-narrower : {z : Sizes} {m m₁ m₂ : Memory} {w : Write} → Between z m m₁ m₂ → InUse z m₁ m₂ w → InUse z m m₂ w
-narrower {w = w} t u = record { either = λ a b. u .either (t .between (w .field) (w .index) a b) b }
-
-narrow-all : {z : Sizes} {m m₁ m₂ : Memory} {ws : List Write} → Between z m m₁ m₂ → EachInUse z m₁ m₂ ws → EachInUse z m m₂ ws
-narrow-all t none = none
-narrow-all t (more u us) = more (narrower t u) (narrow-all t us)
-
-pub in-use-join
-    : {z : Sizes} {m m₁ m₂ : Memory} {ws ws′ : List Write} → Between z m m₁ m₂ → EachInUse z m m₁ ws → EachInUse z m₁ m₂ ws′ → EachInUse z m m₂ (ws ++ ws′)
-in-use-join t none q = narrow-all t q
-in-use-join t (more u us) q = more (wider t u) (in-use-join t us q)
 
 -- Two runs of stores of one operation.
 pub in-use-runs : {z : Sizes} {m m′ : Memory} {ws ws′ : List Write} → EachInUse z m m′ ws → EachInUse z m m′ ws′ → EachInUse z m m′ (ws ++ ws′)

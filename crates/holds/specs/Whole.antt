@@ -16,7 +16,7 @@ use Rattle.chain.specs.Links.{walk, Queue}
 use Rattle.state.specs.Fields as fields
 use Rattle.state.specs.Abs.{sizesOf, memoryOf, waiterList, machineOf, abs}
 use Rattle.state.specs.Places.{sizesIn, memIn}
-use Rattle.state.specs.WellFormed.{markValue, Queues, Tagged, Rep, WellFormed}
+use Rattle.state.specs.WellFormed.{markValue, Queues, Tagged, Idle, Rep, WellFormed}
 use Rattle.state.specs.declared.Sizes.{Sizes}
 use Rattle.exact.specs.Bounds.{InBounds, in-bounds}
 use Rattle.exact.specs.Parts.{walk-none}
@@ -71,6 +71,7 @@ record RepAt (s : List ℕ) (v : machine.Sizes) : Type 0 where
   sizes : SizesInRange v
   state : State fields.layout1 (fields.mostOf v) (fields.counts v) s
   keeps : Keeps v (mem fields.layout1 (fields.counts v) s) 0
+  idle : Idle (mem fields.layout1 (fields.counts v) s)
 
 rep-at : (s : List ℕ) → RepAt s (sizesOf s) → Rep s
 rep-at s r =
@@ -84,12 +85,13 @@ rep-at s r =
       cells = r .keeps .cells;
       ages = r .keeps .ages;
       index = r .keeps .index;
+      idle = r .idle;
     }
 
--- With nobody owed, the bytes represent their machine.
-pub holds-rep : {z : Sizes} {s : List ℕ} → Holds z s 0 → Rep s
-holds-rep {z} {s} h =
-    rep-at s (subst (RepAt s) (sym (holds-sizes h)) (record { sizes = h .sizes; state = h .state; keeps = h .keeps }))
+-- With nobody owed, and nothing in what is free, the bytes represent their machine.
+pub holds-rep : {z : Sizes} {s : List ℕ} → Holds z s 0 → Idle (memIn z s) → Rep s
+holds-rep {z} {s} h i =
+    rep-at s (subst (RepAt s) (sym (holds-sizes h)) (record { sizes = h .sizes; state = h .state; keeps = h .keeps; idle = i }))
 
 -- A well-formed state keeps every group, at the sizes that its header names.
 module _ {z : machine.Sizes} {m : Memory} (b : InBounds z m) (q : Queues z m) (t : Tagged z m) (g : Good (machineOf z m)) where
@@ -151,9 +153,13 @@ well-keeps s w =
             ages = w .rep .ages;
             index = w .rep .index;
           };
+      idle = w .rep .idle;
     }
 
 pub well-holds : {z : Sizes} {s : List ℕ} → sizesIn z ≡ sizesOf s → WellFormed s → Holds z s 0
 well-holds {z} {s} e w =
     let r : RepAt s (sizesIn z) = subst (RepAt s) (sym e) (well-keeps s w) in
     record { sizes = r .sizes; state = r .state; keeps = r .keeps }
+
+pub well-idle : {z : Sizes} {s : List ℕ} → sizesIn z ≡ sizesOf s → WellFormed s → Idle (memIn z s)
+well-idle {s = s} e w = subst (λ (v : machine.Sizes). Idle (mem fields.layout1 (fields.counts v) s)) (sym e) (w .rep .idle)

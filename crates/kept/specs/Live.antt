@@ -1,19 +1,19 @@
 -- Every row of the table is live where it can be: for each number but 1, 14 and 16 a list of steps on a fresh machine whose last step
 -- meets it, computed; for 16, which no list is long enough to meet, a machine that keeps the rules and meets it.
 use mathlib.Core.Path.{_≡_, refl}
-use mathlib.Core.Bool.{Bool, true, false}
-use mathlib.Core.List.{List, [], _∷_, _++_}
-use Prim.Native.Nat.{ℕ, _+_, _-_, _^_, _≤_, _<_}
+use mathlib.Core.Bool.{true, false}
+use mathlib.Core.List.{List, [], _∷_}
+use Prim.Native.Nat.{ℕ, _-_, _^_, _≤_}
 use native.Mathlib.Omega.{arith}
-use Rattle.machine.specs.Machine.{Machine, Sizes, fresh, process, sleeper, lock, setting, pidOf, asleepOn, living, openMachine}
+use Rattle.machine.specs.Machine.{Machine, Sizes, fresh, sleeper, openMachine}
 use Rattle.machine.specs.Update.{withNextPid}
-use Rattle.machine.specs.Step.{Step, Body, start, rfork, name, sched, yield, sleep, tsleep, wakeup, qlock, qunlock, clock, tadd, exit, wait}
+use Rattle.machine.specs.Step.{Step, Body, start, rfork, sched, yield, sleep, wakeup, qunlock, clock, tadd, exit, wait}
 use Rattle.machine.specs.Outcome.{Reply, refused}
 use Rattle.machine.specs.Exits.{cellsUsed}
 use Rattle.machine.specs.Timers.{ownTimer}
 use Rattle.machine.specs.StepOf.{stepOf}
 use Rattle.machine.specs.Listing.{openDefinitions}
-use Rattle.machine.specs.Good.{SizesInRange, InRange, Good, places, children}
+use Rattle.machine.specs.Good.{Good, places, children}
 use Rattle.kept.specs.Fresh.{good-fresh}
 
 -- Three processes and one cell, at 1,000,000 Hz: a small machine on which all of them arise.

@@ -1,15 +1,14 @@
 -- Where fields lie, and that two places do not overlap: for any table that passes the test.
-use mathlib.Core.Path.{_≡_, refl, sym, ap, subst, _∙_}
-use mathlib.Core.Bool.{Bool, true, false, not, _&&_, _||_}
+use mathlib.Core.Path.{_≡_, refl, sym, ap, subst}
+use mathlib.Core.Bool.{not, _||_}
 use mathlib.Core.List.{List, [], _∷_}
 use mathlib.Core.Logic.{_⊎_, inl, inr, ⊎-elim}
 use Prim.Native.Nat.{ℕ, zero, suc, _+_, _*_, _-_, _≤_, _<_}
 use native.Mathlib.Omega.{arith}
 use native.Mathlib.Nat.{add-zero, add-suc, mul-le-mul-right, le-of-suc-le-suc, not-suc-le-zero}
 use lib.Dec.{T, T-not, leb, ltb, eqb, leb→le, ltb→lt, eqb-refl}
-use borrow.Author.Tests.{lt-ltb}
 use lib.ListN.{length, getD}
-use Rattle.machine.specs.Basics.{if_then_else_, all}
+use Rattle.machine.specs.Basics.{all}
 use Rattle.layout.specs.Tests.{and-left, and-right, or-cases, all-at}
 use Rattle.layout.specs.Table.{Slot, slot, Layout, stride, field, count, start, total, place, inside, split, pairwise, sound}
 

@@ -1,15 +1,15 @@
 -- The memory of bytes that are zero as far as the state goes.
-use mathlib.Core.Path.{_≡_, refl, sym, ap, fun-ext, _∙_}
+use mathlib.Core.Path.{_≡_, refl, ap, fun-ext}
 use mathlib.Core.Bool.{Bool, true, false}
-use mathlib.Core.List.{List, [], _∷_, _++_}
-use Prim.Native.Nat.{ℕ, zero, suc, _+_, _*_, _≤_, _<_}
+use mathlib.Core.List.{List, _++_}
+use Prim.Native.Nat.{ℕ, zero, suc, _+_, _≤_, _<_}
 use native.Mathlib.Omega.{arith}
 use borrow.Author.Tests.{ltb-true, ltb-false}
 use lib.Dec.{T, ltb}
-use lib.ListN.{length, getD, replicate, List·getD-append, length-append}
+use lib.ListN.{length, getD, replicate, List·getD-append}
 use Rattle.memory.specs.Le.{le}
 use Rattle.machine.specs.Basics.{if_then_else_}
-use Rattle.layout.specs.Table.{Layout, Slot, field, count, total, place, sound}
+use Rattle.layout.specs.Table.{Layout, field, count, total, place, sound}
 use Rattle.layout.specs.Place.{inside-at, below-total}
 use Rattle.layout.specs.Memory.{Memory, mem, cell, mem-past}
 

@@ -1,13 +1,12 @@
 -- What a line of the listing asks and ensures.
-use mathlib.Core.Path.{_≡_, refl, sym, ap, subst, _∙_}
+use mathlib.Core.Path.{_≡_, sym, ap, _∙_}
 use mathlib.Core.Bool.{Bool, true, false}
 use mathlib.Core.List.{List, _++_}
-use mathlib.Core.Option.{Option, none, some}
-use Prim.Native.Nat.{ℕ, _+_, _*_, _≤_, _<_}
+use mathlib.Core.Option.{Option}
+use Prim.Native.Nat.{ℕ, _+_, _*_, _≤_}
 use lib.ListN.{length, drop}
 use Rattle.machine.specs.Step.{Step}
 use Rattle.machine.specs.Outcome as machine
-use Rattle.machine.specs.Outcome.{Outcome}
 use Rattle.machine.specs.StepOf.{outcomeOf}
 use Rattle.machine.specs.Print.{printLine}
 use Rattle.state.specs.declared.Sizes.{Sizes}
@@ -45,8 +44,8 @@ pub record LineAsks (z : Sizes) (s b m out : List ℕ) (at : ℕ) : Type 0 where
 abbrev pub withMessage : machine.Reply → List ℕ → List ℕ
 withMessage r m = told r ++ drop (length (told r)) m
 
--- The step, or none, was taken, and its line stands in out from `at` to r. No byte of the state is written but of fields that the machine
--- uses before or after; the message buffer m became m′.
+-- The step, or none, was taken, and its line stands in out from `at` to r. No byte of the state is written but of fields, and what the
+-- machine then neither uses nor has cleared stays; the message buffer m became m′.
 pub record LineTook (z : Sizes) (s s′ : List ℕ) (n : ℕ) (x : Option Step) (m m′ out : List ℕ) (at : ℕ) (out′ : List ℕ) (r : ℕ) : Type 0 where
   pub well : Well z s′
   pub spares : Spares z s s′

@@ -1,17 +1,13 @@
 -- The text that a line prints: the status that an `exit` was given, or the message.
-use mathlib.Core.Path.{_≡_, refl, sym, ap, subst, _∙_}
-use mathlib.Core.Bool.{Bool, true, false, not, true≢false, false≢true}
-use mathlib.Core.List.{List, [], _∷_, _++_}
+use mathlib.Core.Path.{_≡_, refl}
+use mathlib.Core.Bool.{Bool, true, false, not, true≢false}
+use mathlib.Core.List.{List, [], _∷_}
 use mathlib.Core.Option.{Option, none, some}
-use Prim.Native.Nat.{ℕ, _+_, _-_, _*_, _≤_, _<_}
-use native.Mathlib.Omega.{arith}
+use Prim.Native.Nat.{ℕ}
 use lib.Dec.{eqb, ltb}
-use lib.ListN.{length, take, drop, length-append, length-drop}
-use lib.Seq.{length-take-le}
 use Rattle.machine.specs.Basics.{if_then_else_, isEmpty}
 use Rattle.machine.specs.Flags.{has, RFPROC, RFNOWAIT}
 use Rattle.machine.specs.Machine.{Machine, Resume, nothing, inSleep, inTsleep, inQlock, inWait, condition, lock, asleepOn, asleep, process}
-use Rattle.machine.specs.Bytes.{decode}
 use Rattle.machine.specs.Step.{Step, Body, start, rfork, name, sched, yield, sleep, tsleep, wakeup, qlock, canqlock, qunlock, cond, clock, tadd, tdel, intr, due, exit, wait}
 use Rattle.machine.specs.Outcome as machine
 use Rattle.machine.specs.Outcome.{Answer, answer, refused, Outcome, openOutcome}

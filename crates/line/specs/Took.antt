@@ -1,14 +1,14 @@
 -- What the code shows at each call of the printer and each return.
 use mathlib.Core.Path.{_≡_, refl, sym, ap, subst, _∙_}
 use mathlib.Core.Bool.{Bool, true, false, true≢false, false≢true}
-use mathlib.Core.List.{List, [], _++_}
+use mathlib.Core.List.{List}
 use mathlib.Core.Option.{Option, none, some}
-use Prim.Native.Nat.{ℕ, _+_, _-_, _*_, _≤_, _<_}
+use Prim.Native.Nat.{ℕ, _+_, _-_, _*_, _≤_}
 use native.Mathlib.Omega.{arith}
 use lib.ListN.{length, take, drop, length-append, length-drop}
 use lib.Seq.{length-take-le}
 use Rattle.machine.specs.Bytes.{decode}
-use Rattle.machine.specs.Step.{Step, Body, exit}
+use Rattle.machine.specs.Step.{Step, exit}
 use Rattle.machine.specs.Machine.{Machine}
 use Rattle.machine.specs.Outcome as machine
 use Rattle.machine.specs.Outcome.{Outcome}
@@ -27,13 +27,12 @@ use Rattle.outcome.specs.declared.Reply.{Reply}
 use Rattle.outcome.specs.Length.{lengthOf}
 use Rattle.outcome.specs.Means.{means, told, statusOf}
 use Rattle.outcome.specs.Refusals.{step}
-use Rattle.outcome.specs.Stepped.{Well}
-use Rattle.proc.specs.Arms.{CallAsks, CallTook, take-took}
+use Rattle.proc.specs.Arms.{CallTook, take-took}
 use Rattle.proc.specs.Silent.{tells, isChild}
 use Rattle.proc.specs.Taken.{Taken, statusIn, given}
 use Rattle.parse.specs.Parsed.{Parsed}
 use Rattle.print.specs.Line.{LineAsks as PrintAsks, Printed}
-use Rattle.print.specs.Put.{Put, put-as}
+use Rattle.print.specs.Put.{put-as}
 use Rattle.line.specs.Line.{LineAsks, StepAsks, isExit, lineMost, withMessage, LineTook, LineTaken}
 use Rattle.line.specs.Text.{exits, tellsExit, given-tells, given-silent, other-buffer, other-status, silent-told}
 

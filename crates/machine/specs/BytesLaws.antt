@@ -1,15 +1,13 @@
 -- Decoding what was encoded gives the step back.
 use mathlib.Core.Path.{_≡_, refl, sym, ap, ap₂, _∙_}
 use mathlib.Core.Bool.{Bool, true, false}
-use mathlib.Core.List.{List, [], _∷_, _++_, append-assoc}
-use mathlib.Core.Option.{Option, none, some}
-use Prim.Native.Nat.{ℕ, zero, suc, _+_, _*_, _/_, _%_, _^_, _≤_, _<_}
+use mathlib.Core.List.{List, [], _∷_, _++_}
+use mathlib.Core.Option.{some}
+use Prim.Native.Nat.{ℕ, zero, suc, _+_, _*_, _/_, _%_, _^_, _<_}
 use native.Mathlib.Omega.{arith}
-use native.Mathlib.Nat.{zero-add, suc-add, add-zero, add-suc}
+use native.Mathlib.Nat.{add-suc}
 use borrow.Author.Tests.{eq-eqb, le-leb, le-ltb}
-use lib.Dec.{eqb, leb, ltb}
-use lib.Text.{eqt}
-use lib.ListN.{length, getD, drop, length-append}
+use lib.ListN.{length, drop, length-append}
 use lib.Seq.{getD-append-add, drop-at}
 use Rattle.memory.specs.Le.{le}
 use Rattle.machine.specs.Basics.{concatMap}

@@ -1,11 +1,11 @@
 -- Records and message cells, and what an exit leaves for the parent.
-use mathlib.Core.Bool.{Bool, true, false, not, _&&_}
+use mathlib.Core.Bool.{Bool, false, not}
 use mathlib.Core.List.{List, [], _∷_, map}
 use mathlib.Core.Option.{Option, none, some, Option·getD}
 use Prim.Native.Nat.{ℕ, _-_}
 use lib.Dec.{eqb, ltb}
 use lib.ListN.{length}
-use Rattle.machine.specs.Basics.{if_then_else_, isNone, elem, concatMap, firstThat, highestBelow}
+use Rattle.machine.specs.Basics.{if_then_else_, elem, concatMap, firstThat, highestBelow}
 use Rattle.machine.specs.Machine.{Machine, Process, Exit, free, process, pidOf, living}
 use Rattle.machine.specs.Update.{withUp, withProcess, withNchild, withExits, withOnWaitr}
 use Rattle.machine.specs.Message.{message}

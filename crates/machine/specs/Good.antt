@@ -1,16 +1,16 @@
 -- When a machine is one that a well-formed state holds: 01's paragraph 'A state is well formed exactly if', clause by clause.
 -- What that paragraph says of links and stored counts (asleep, queues that run from head to tail) is said of the bytes.
 use mathlib.Core.Path.{_≡_}
-use mathlib.Core.Bool.{Bool, true, false, _&&_}
+use mathlib.Core.Bool.{true, false, _&&_}
 use mathlib.Core.List.{List, [], _∷_, _++_, map}
 use mathlib.Core.Logic.{_⊎_}
 use mathlib.Core.Option.{Option, none, some}
-use Prim.Native.Nat.{ℕ, suc, _+_, _-_, _^_, _≤_, _<_}
+use Prim.Native.Nat.{ℕ, _+_, _-_, _^_, _≤_, _<_}
 use lib.Dec.{eqb}
-use lib.ListN.{length, getD}
+use lib.ListN.{length}
 use Rattle.clock.specs.Counts.{countsOf}
 use Rattle.machine.specs.Basics.{if_then_else_, count, countThat}
-use Rattle.machine.specs.Machine.{Sizes, Resume, nothing, inSleep, inTsleep, inQlock, inWait, Exit, Process, Lock, Setting, Queued, Machine, free, process, sleeper, lock, setting, pidOf, living, asleepOn}
+use Rattle.machine.specs.Machine.{Sizes, Resume, nothing, inSleep, inTsleep, inQlock, inWait, Exit, Process, Setting, Queued, Machine, free, process, sleeper, lock, setting, pidOf, living, asleepOn}
 use Rattle.machine.specs.Exits.{cellsUsed}
 use Rattle.machine.specs.Timers.{ownTimer}
 

@@ -1,15 +1,15 @@
 -- What each step does where the table does not refuse it.
 use mathlib.Core.Bool.{Bool, true, false, not}
 use mathlib.Core.List.{List, [], _∷_, _++_}
-use mathlib.Core.Option.{Option, none, some, Option·getD}
+use mathlib.Core.Option.{none, some, Option·getD}
 use Prim.Native.Nat.{ℕ, suc, _+_, _-_, _/_}
 use lib.Dec.{eqb, leb}
 use lib.ListN.{length, replicate}
 use Rattle.clock.specs.Counts.{countsOf}
 use Rattle.machine.specs.Basics.{if_then_else_, isEmpty}
-use Rattle.machine.specs.Machine.{Machine, Process, Exit, Resume, nothing, inSleep, inTsleep, inQlock, inWait, free, process, sleeper, lock, condition, pidOf, asleep}
+use Rattle.machine.specs.Machine.{Machine, Process, Exit, Resume, nothing, inSleep, inTsleep, inQlock, inWait, process, lock, condition, pidOf, asleep}
 use Rattle.machine.specs.Update.{withNextPid, withLastNow, withUp, withRun, withProcess, withLock, withSetting, withCondition, withName, withNchild, withExits, withQuantumEnd, withResume}
-use Rattle.machine.specs.Step.{Step, Body, start, rfork, name, sched, yield, sleep, tsleep, wakeup, qlock, canqlock, qunlock, cond, clock, tadd, tdel, intr, due, exit, wait}
+use Rattle.machine.specs.Step.{Body, start, rfork, name, sched, yield, sleep, tsleep, wakeup, qlock, canqlock, qunlock, cond, clock, tadd, tdel, intr, due, exit, wait}
 use Rattle.machine.specs.Outcome.{Answer, Outcome, answer, answered, readying, dispatching}
 use Rattle.machine.specs.Flags.{has, RFPROC, RFNOWAIT}
 use Rattle.machine.specs.Places.{Woken, ready, wake, sleepOn, sleepOnWaitr, queueOn, handOver}

@@ -1,7 +1,7 @@
 -- A line of the listing.
-use mathlib.Core.Bool.{Bool, true, false}
-use mathlib.Core.List.{List, [], _∷_, _++_, map}
-use mathlib.Core.Option.{Option, none, some}
+use mathlib.Core.Bool.{true, false}
+use mathlib.Core.List.{List, [], _∷_, _++_}
+use mathlib.Core.Option.{none, some}
 use Prim.Native.Nat.{ℕ}
 use Rattle.machine.specs.Basics.{ascii}
 use Rattle.machine.specs.Machine.{Machine, pidOf, asleep}

@@ -3,12 +3,11 @@ use mathlib.Core.Path.{_≡_, refl}
 use mathlib.Core.Bool.{false}
 use mathlib.Core.List.{List, [], _∷_, _++_}
 use Prim.Native.Nat.{ℕ, _-_, _^_}
-use Prim.Native.String.{String}
 use lib.ListN.{replicate}
 use Rattle.clock.specs.Counts.{countsOf}
 use Rattle.machine.specs.Basics.{ascii}
 use Rattle.machine.specs.Machine.{Machine, fresh}
-use Rattle.machine.specs.Step.{Step, Body, start, rfork, sched}
+use Rattle.machine.specs.Step.{Body, start, rfork, sched}
 use Rattle.machine.specs.Outcome.{Answer, Reply, Outcome, answer, refused}
 use Rattle.machine.specs.Message.{message}
 use Rattle.machine.specs.StepOf.{stepOf}

@@ -4,7 +4,6 @@ use mathlib.Core.List.{List, [], _∷_}
 use mathlib.Core.Option.{Option, none, some}
 use Prim.Native.Nat.{ℕ, zero, suc}
 use Prim.Native.String.{String}
-use lib.Dec.{eqb}
 
 -- What a step asks. M: 0 works, 1 no address space, 2 no stack, 3 page copy fails (rfork only). F: flags. R, C, Q, T: one
 -- Rendez, condition, lock, timer. V: 0 or 1. S and N: seconds, nanoseconds. KIND: 0 relative, 1 periodic.

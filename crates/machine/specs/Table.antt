@@ -9,7 +9,7 @@ use lib.Text.{eqt}
 use lib.ListN.{length}
 use Rattle.clock.specs.Counts.{countsOf, zeroDuration, shorter}
 use Rattle.machine.specs.Basics.{if_then_else_, isSome, isNone, isEmpty, all}
-use Rattle.machine.specs.Machine.{Machine, Sizes, Process, Queued, Resume, nothing, inSleep, inTsleep, inQlock, inWait, process, sleeper, lock, condition}
+use Rattle.machine.specs.Machine.{Machine, Sizes, Resume, nothing, inSleep, inTsleep, inQlock, inWait, process, sleeper, lock, condition}
 use Rattle.machine.specs.Step.{Step, Body, start, rfork, name, sched, yield, sleep, tsleep, wakeup, qlock, canqlock, qunlock, cond, clock, tadd, tdel, intr, due, exit, wait, Fields, numbers, bytes, wordOf, fieldsOf}
 use Rattle.machine.specs.Flags.{has, bad, RFPROC}
 use Rattle.machine.specs.Exits.{freeRecord, freeCell, without, messageDue}

@@ -1,8 +1,7 @@
 -- The timer queue, and `interrupt`.
 use mathlib.Core.Bool.{Bool, true, false, not}
 use mathlib.Core.List.{List, [], _∷_, _++_}
-use mathlib.Core.Option.{Option, none, some}
-use Prim.Native.Nat.{ℕ, zero, suc, _+_, _-_, _/_}
+use Prim.Native.Nat.{ℕ, zero, suc, _+_, _-_}
 use lib.Dec.{eqb, leb, ltb}
 use Rattle.machine.specs.Basics.{if_then_else_, isSome, filter, firstThat}
 use Rattle.machine.specs.Machine.{Machine, Queued, Resume, nothing, inSleep, inTsleep, inQlock, inWait, process, setting}

@@ -1,11 +1,11 @@
 -- `interrupt` never stops for its bound on the firings: when it ends, no queued timer at the head is due.
-use mathlib.Core.Path.{_≡_, refl, sym, ap, _∙_, subst}
+use mathlib.Core.Path.{_≡_, refl, ap, subst}
 use mathlib.Core.Bool.{Bool, true, false}
 use mathlib.Core.List.{List, [], _∷_}
 use mathlib.Core.Option.{Option, none, some}
 use Prim.Native.Nat.{ℕ, zero, suc, _+_, _-_, _≤_, _<_}
 use native.Mathlib.Omega.{arith}
-use borrow.Author.Tests.{leb-true, leb-false, eqb-true, eqb-false}
+use borrow.Author.Tests.{leb-true, leb-false, eqb-false}
 use lib.Dec.{eqb, leb, ltb}
 use Rattle.machine.specs.Basics.{if_then_else_}
 use Rattle.machine.specs.Machine.{Machine, Queued, Resume, nothing, inSleep, inTsleep, inQlock, inWait, process, setting, sleeper}

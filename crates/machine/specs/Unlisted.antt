@@ -2,14 +2,12 @@
 -- often timer 0 fires, the message buffer, and the numbers 14 and 16. One table, and one theorem that each of its rows holds.
 use mathlib.Core.Path.{_≡_, refl}
 use mathlib.Core.Bool.{true, false}
-use mathlib.Core.List.{List, [], _∷_, _++_, map}
-use mathlib.Core.Option.{Option, none, some}
+use mathlib.Core.List.{List, [], _∷_, _++_}
+use mathlib.Core.Option.{some}
 use Prim.Native.Nat.{ℕ, _-_, _^_}
-use lib.ListN.{replicate}
-use Rattle.machine.specs.Basics.{ascii}
-use Rattle.machine.specs.Machine.{Machine, Sizes, Exit, inWait, fresh, process, asleep}
+use Rattle.machine.specs.Machine.{Machine, Sizes, inWait, fresh, process, asleep}
 use Rattle.machine.specs.Update.{withNextPid, withProcess, withResume}
-use Rattle.machine.specs.Step.{Step, Body, start, rfork, name, sched, yield, sleep, tsleep, wakeup, qlock, qunlock, cond, clock, tadd, intr, due, exit, wait}
+use Rattle.machine.specs.Step.{Step, Body, start, rfork, sched, yield, sleep, tsleep, wakeup, qlock, qunlock, clock, tadd, intr, due, exit, wait}
 use Rattle.machine.specs.Outcome.{Answer, Reply, Outcome, answer, refused}
 use Rattle.machine.specs.Exits.{cellsUsed}
 use Rattle.machine.specs.StepOf.{stepOf, outcomeOf}

@@ -1,13 +1,12 @@
 -- What `size` and `make` ensure, and what the code shows at each way out.
-use mathlib.Core.Path.{_≡_, refl, sym, ap, subst, _∙_}
+use mathlib.Core.Path.{_≡_, refl, sym, ap, _∙_}
 use mathlib.Core.Bool.{Bool, true, false, not, _&&_, false≢true}
 use mathlib.Core.List.{List}
 use Prim.Native.Nat.{ℕ, _≤_, _<_}
 use native.Mathlib.Omega.{arith}
 use borrow.Author.Tests.{not-true, not-false, le-ltb, lt-ltb, leb-true}
-use lib.Dec.{leb, ltb}
+use lib.Dec.{leb}
 use lib.ListN.{length}
-use Rattle.machine.specs.Basics.{if_then_else_}
 use Rattle.machine.specs.Machine as machine
 use Rattle.machine.specs.Good.{SizesInRange}
 use Rattle.state.specs.Places.{sizesIn, totalIn}

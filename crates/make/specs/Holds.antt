@@ -1,24 +1,24 @@
 -- The memory of a fresh state holds a fresh machine, by the layout's rules.
 use mathlib.Core.Path.{_≡_, refl, sym, ap, subst, _∙_}
 use mathlib.Core.Bool.{Bool, true, false, not, _&&_}
-use mathlib.Core.List.{List, [], _∷_, _++_, map, reverse}
-use mathlib.Core.Option.{Option, none}
-use Prim.Native.Nat.{ℕ, zero, suc, _+_, _-_, _*_, _^_, _≤_, _<_}
+use mathlib.Core.List.{List, [], _∷_, map}
+use mathlib.Core.Option.{none}
+use Prim.Native.Nat.{ℕ, zero, suc, _+_, _*_, _≤_}
 use native.Mathlib.Omega.{arith}
 use native.Mathlib.Nat.{not-suc-le-zero}
-use lib.Dec.{eqb, ltb}
+use lib.Dec.{ltb}
 use lib.ListN.{length, replicate, set}
 use Rattle.clock.specs.Counts.{countsOf}
 use Rattle.machine.specs.Basics.{if_then_else_, count, concatMap, present, numbersFrom}
-use Rattle.machine.specs.Machine.{Sizes, Machine, Process, Lock, Setting, Queued, free, fresh, asleep, asleepOn}
-use Rattle.machine.specs.Good.{SizesInRange, Each, Good}
+use Rattle.machine.specs.Machine.{Sizes, Process, Lock, Setting, free, fresh, asleep, asleepOn}
+use Rattle.machine.specs.Good.{SizesInRange, Good}
 use Rattle.layout.specs.Memory.{Memory, mem}
 use Rattle.layout.specs.Writes.{State, updates}
 use Rattle.layout.specs.Zeros.{nothing}
-use Rattle.chain.specs.Links.{walk, Links, Chain, Queue, alter-other}
+use Rattle.chain.specs.Links.{walk, Queue, alter-other}
 use Rattle.state.specs.Fields as fields
-use Rattle.state.specs.Abs.{sizesOf, memoryOf, table, linkTo, isSet, runList, waiterList, timerList, exitList, processAt, machineOf, abs}
-use Rattle.state.specs.WellFormed.{markValue, Used, Tagged, Queues, Cells, Ages, ageList, Rising, bits, inUse, isFull, Index, Rep, WellFormed}
+use Rattle.state.specs.Abs.{sizesOf, memoryOf, table, linkTo, isSet, runList, waiterList, timerList, processAt, machineOf, abs}
+use Rattle.state.specs.WellFormed.{markValue, Tagged, Queues, Cells, Ages, ageList, bits, inUse, Index, Idle, Rep, WellFormed}
 use Rattle.kept.specs.Fresh.{good-fresh}
 use Rattle.make.specs.Fresh.{sizesFit, sizesFor, totalFor, freshStores, freshBytes, makeAnswer, makeBytes}
 use Rattle.make.specs.Answers.{sizes-fit}
@@ -172,6 +172,15 @@ index-fresh z =
       fullCells = sym (bits-none (λ v. false) 16 (λ k. refl));
     }
 
+idle-fresh : (z : Sizes) → Idle (freshMemory z)
+unfolding freshStores
+idle-fresh z =
+    record {
+      records = λ i e. record { older = refl; younger = refl; exits = refl; nexits = refl };
+      cells = λ c e. refl;
+      timers = λ t e. refl;
+    }
+
 -- The bytes of a fresh state represent a fresh machine.
 module _ (z : Sizes) (h : SizesInRange z) (s : List ℕ) where
   carried : (P : Sizes → Memory → Type 0) → P z (freshMemory z) → P (sizesOf (freshBytes z s)) (memoryOf (freshBytes z s))
@@ -199,6 +208,7 @@ module _ (z : Sizes) (h : SizesInRange z) (s : List ℕ) where
         cells = carried Cells (cells-fresh z);
         ages = carried Ages (ages-fresh z);
         index = carried Index (index-fresh z);
+        idle = carried (λ y m. Idle m) (idle-fresh z);
       }
 
   -- So it is well formed, since a fresh machine keeps the rules.

@@ -1,25 +1,22 @@
 -- The bytes of a fresh state hold a fresh machine.
 use mathlib.Core.Path.{_≡_, refl, sym, ap, subst, _∙_}
-use mathlib.Core.Bool.{Bool, true, false}
-use mathlib.Core.List.{List, [], _∷_, _++_}
-use Prim.Native.Nat.{ℕ, zero, suc, _+_, _-_, _*_, _^_, _≤_, _<_}
+use mathlib.Core.List.{List}
+use Prim.Native.Nat.{ℕ, _≤_, _<_}
 use native.Mathlib.Omega.{arith}
-use lib.Dec.{T, ltb, lit<}
-use lib.ListN.{length, getD, drop, replicate, length-append}
+use lib.Dec.{lit<}
+use lib.ListN.{drop, replicate, length-append}
 use Rattle.memory.specs.Le.{le}
 use Rattle.clock.specs.Counts.{nanosOf, countsOf}
 use Rattle.clock.specs.Laws.{counts-within-one}
-use Rattle.machine.specs.Basics.{if_then_else_}
 use Rattle.machine.specs.Machine.{Sizes}
 use Rattle.machine.specs.Good.{SizesInRange}
 use Rattle.layout.specs.Table.{start, place, field, count}
-use Rattle.layout.specs.Memory.{Memory, mem, Ranged, cell, cell-in, In}
-use Rattle.layout.specs.Writes.{State, Write, to, writes, updates, Writable, Ranges, written, state-writes, length-writes}
+use Rattle.layout.specs.Memory.{Memory, mem, Ranged, cell-in}
+use Rattle.layout.specs.Writes.{State, updates, Writable, written, state-writes}
 use Rattle.layout.specs.Zeros.{nothing, mem-zeros, length-zeros}
 use Rattle.state.specs.Fields as fields
 use Rattle.state.specs.Ranges.{ranges}
-use Rattle.state.specs.Abs.{sizesOf, memoryOf}
-use Rattle.state.specs.WellFormed.{markValue}
+use Rattle.state.specs.Abs.{sizesOf}
 use Rattle.make.specs.Fresh.{totalFor, freshStores, zeroed, freshBytes}
 
 -- the counts of 10 ms are few

@@ -1,11 +1,11 @@
 -- How a step's contract is met: it is done, or refused.
-use mathlib.Core.Path.{_≡_, refl, sym, ap, subst, _∙_}
+use mathlib.Core.Path.{_≡_, sym, ap, _∙_}
 use mathlib.Core.List.{List, []}
-use mathlib.Core.Option.{Option, none, some}
+use mathlib.Core.Option.{none, some}
 use Prim.Native.Nat.{ℕ}
 use native.Mathlib.Omega.{arith}
 use Rattle.machine.specs.Machine.{Machine}
-use Rattle.machine.specs.Step.{Step, Body}
+use Rattle.machine.specs.Step.{Step}
 use Rattle.machine.specs.Table.{refusal}
 use Rattle.machine.specs.Outcome.{Outcome, refused}
 use Rattle.machine.specs.Perform.{perform}
@@ -18,7 +18,7 @@ use Rattle.holds.specs.Touched.{Spares, spares-none}
 use Rattle.outcome.specs.declared.Reply.{Reply}
 use Rattle.outcome.specs.declared.Reply.the-variants.{Refused}
 use Rattle.outcome.specs.Means.{means, told, statusOf}
-use Rattle.outcome.specs.Stepped.{Well, Stepped, leftBytes}
+use Rattle.outcome.specs.Stepped.{Stepped, leftBytes}
 
 step-done : (m : Machine) (x : Step) → refusal m x ≡ none → stepOf m x ≡ perform (x .body) m
 unfolding stepOf

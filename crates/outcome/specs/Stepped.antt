@@ -1,20 +1,16 @@
 -- What a step asks of a state and ensures.
-use mathlib.Core.Path.{_≡_, refl, sym, ap, subst, _∙_}
-use mathlib.Core.Bool.{Bool, true, false, _&&_}
-use mathlib.Core.List.{List, [], _∷_, _++_}
-use mathlib.Core.Option.{Option, none, some}
-use Prim.Native.Nat.{ℕ, suc, _≤_, _<_}
+use mathlib.Core.Path.{_≡_}
+use mathlib.Core.Bool.{_&&_}
+use mathlib.Core.List.{List, [], _∷_}
+use Prim.Native.Nat.{ℕ, suc}
 use lib.Dec.{eqb}
-use lib.ListN.{length, drop, getD}
 use Rattle.machine.specs.Basics.{if_then_else_}
-use Rattle.machine.specs.Machine.{Machine}
 use Rattle.machine.specs.Good.{Good}
 use Rattle.machine.specs.Step.{Step, Body}
-use Rattle.machine.specs.Table.{on, refusal}
+use Rattle.machine.specs.Table.{on}
 use Rattle.machine.specs.Outcome.{refused}
-use Rattle.machine.specs.Perform.{perform}
-use Rattle.machine.specs.StepOf.{stepOf, leftBy, refusing}
-use Rattle.layout.specs.Writes.{Write, to}
+use Rattle.machine.specs.StepOf.{stepOf}
+use Rattle.layout.specs.Writes.{to}
 use Rattle.state.specs.Fields as fields
 use Rattle.state.specs.Places.{memIn}
 use Rattle.state.specs.declared.Sizes.{Sizes}
@@ -24,7 +20,8 @@ use Rattle.holds.specs.Touched.{Spares}
 use Rattle.outcome.specs.declared.Reply.{Reply}
 use Rattle.outcome.specs.Means.{means, told, statusOf}
 
--- The state is well formed, at the sizes that the code carries.
+-- The state keeps every group of `Holds`, with nobody owed, and the machine's rules, at the sizes that the code carries: all of well-formedness but
+-- `Idle`, which follows a step by `Spares` (`spares-idle`).
 pub record Well (z : Sizes) (s : List ℕ) : Type 0 where
   pub holds : Holds z s 0
   pub good : Good (machineIn z s)
@@ -35,8 +32,8 @@ leftBytes z s number b =
     if eqb number 11 && on 2 "rfork" (λ F M. eqb M 3) b then writesIn z s (to fields.nextPid 0 (suc (memIn z s fields.nextPid 0)) ∷ []) else s
 
 -- A step x took the state s to s′ with the reply r and the message m told: answer and machine are the definition's, and the state is one
--- of its kind again; a refusal leaves the bytes. No byte is written but of fields that the machine uses before or after: the length, all
--- behind the state and all that is used neither before nor after stay.
+-- of its kind again; a refusal leaves the bytes. No byte is written but of fields; what the machine then neither uses nor has cleared stays, and all
+-- behind the state.
 pub record Stepped (z : Sizes) (s s′ : List ℕ) (x : Step) (m : List ℕ) (r : Reply) : Type 0 where
   pub holds : Holds z s′ 0
   pub reply : means r m (statusOf (x .body)) ≡ stepOf (machineIn z s) x .reply

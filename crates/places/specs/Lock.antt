@@ -1,24 +1,23 @@
 -- A lock in the memory of a state: a process is queued for it, the first waiter is taken off, and it is held or freed.
 use mathlib.Core.Path.{_≡_, refl, sym, ap, subst, _∙_}
-use mathlib.Core.Bool.{Bool, false}
 use mathlib.Core.List.{List, [], _∷_, _++_}
 use mathlib.Core.Logic.{_⊎_, ⊎-elim}
 use Prim.Native.Nat.{ℕ, suc, _+_, _<_}
 use native.Mathlib.Omega.{arith}
 use lib.ListN.{length}
-use Rattle.machine.specs.Machine.{Sizes, Machine, Lock, lock, asleep}
+use Rattle.machine.specs.Machine.{Sizes, Lock, lock, asleep}
 use Rattle.machine.specs.Good.{Each}
 use Rattle.machine.specs.Update.{withLock}
 use Rattle.layout.specs.Memory.{Memory, alter, setField}
 use Rattle.lists.specs.Lists.{each-append}
-use Rattle.chain.specs.Lists.{Absent, Distinct, all-map, all-both}
-use Rattle.chain.specs.Links.{walk, Queue, pushLinks, pushFirst, popLast, queue-push, queue-pop, chain-walk, alter-same, alter-other}
+use Rattle.chain.specs.Lists.{Absent, all-map, all-both}
+use Rattle.chain.specs.Links.{Queue, pushLinks, pushFirst, popLast, queue-push, queue-pop, chain-walk, alter-same, alter-other}
 use Rattle.state.specs.Fields as fields
-use Rattle.state.specs.Abs.{table, linkTo, isSet, runList, waiterList, timerList, exitList, waitsOn, exitAt, processAt, machineOf}
+use Rattle.state.specs.Abs.{linkTo, runList, waiterList, timerList, exitList, waitsOn, exitAt, processAt, machineOf}
 use Rattle.state.specs.Tables.{table-length}
 use Rattle.state.specs.WellFormed.{Used}
 use Rattle.state.specs.Blanks.{is-linked-waits}
-use Rattle.rules.specs.Facts.{RunOk, SleepsHere, WaitsHere}
+use Rattle.rules.specs.Facts.{SleepsHere, WaitsHere}
 use Rattle.exact.specs.Bounds.{InBounds, inside}
 use Rattle.exact.specs.Parts.{lock-of}
 use Rattle.queue.specs.Other.{Apart, LinkAbsent, absent-by, apart-by, final-absent, after-push, queue-alter}

@@ -2,13 +2,13 @@
 use mathlib.Core.Path.{_≡_, refl, ap}
 use mathlib.Core.Bool.{Bool}
 use mathlib.Core.List.{List, map}
-use Prim.Native.Nat.{ℕ, _+_, _*_, _<_}
+use Prim.Native.Nat.{ℕ, _+_, _*_}
 use lib.Dec.{eqb}
 use Rattle.machine.specs.Basics.{if_then_else_}
-use Rattle.machine.specs.Machine.{Sizes, Process, Lock, free}
-use Rattle.layout.specs.Memory.{Memory, setField}
+use Rattle.machine.specs.Machine.{Process, Lock, free}
+use Rattle.layout.specs.Memory.{Memory}
 use Rattle.state.specs.Fields as fields
-use Rattle.state.specs.Abs.{table, isSet, resumeOf, waiterList, exitList, waitsOn, exitAt, processAt}
+use Rattle.state.specs.Abs.{table, isSet, resumeOf, exitList, waitsOn, exitAt, processAt}
 use Rattle.holds.specs.Parts.{table-same}
 
 -- Record i with its waitr told apart.

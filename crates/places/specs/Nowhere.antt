@@ -2,10 +2,9 @@
 use mathlib.Core.Path.{_≡_, refl, sym, ap, subst, subst₃, _∙_}
 use mathlib.Core.Bool.{Bool, true, false, _&&_, false≢true}
 use mathlib.Core.List.{List, [], _∷_}
-use mathlib.Core.Logic.{_⊎_, ⊎-elim}
 use Prim.Native.Nat.{ℕ, zero, suc, _<_}
 use native.Mathlib.Omega.{arith}
-use borrow.Author.Tests.{eqb-true, eqb-false, eq-eqb, ne-eqb}
+use borrow.Author.Tests.{eqb-true, eqb-false, ne-eqb}
 use lib.Dec.{eqb}
 use Rattle.machine.specs.Machine.{Sizes}
 use Rattle.machine.specs.Good.{Each}
@@ -15,7 +14,6 @@ use Rattle.chain.specs.Links.{final, pushLinks, alter-same, alter-other}
 use Rattle.state.specs.Fields as fields
 use Rattle.state.specs.Abs.{runList, waiterList, waitsOn}
 use Rattle.state.specs.WellFormed.{Used, isLinked, Blank, Blanks, NoLink, Unlinked}
-use Rattle.rules.specs.Facts.{SleepsHere, WaitsHere}
 use Rattle.queue.specs.Other.{absent-by}
 use Rattle.holds.specs.Holds.{Placed}
 

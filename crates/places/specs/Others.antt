@@ -1,6 +1,6 @@
 -- The groups that the places of processes have no part in, by the fields that they rest on: an operation on places leaves them as they
 -- are, by computation.
-use mathlib.Core.Path.{_≡_, refl, sym}
+use mathlib.Core.Path.{_≡_, refl}
 use Prim.Native.Nat.{ℕ}
 use Rattle.machine.specs.Machine.{Sizes}
 use Rattle.layout.specs.Memory.{Memory}

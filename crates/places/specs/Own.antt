@@ -1,35 +1,28 @@
 -- Who runs, who sleeps on the own waitr, where a call goes on, and how many are asleep, in the memory of a state.
-use mathlib.Core.Path.{_≡_, refl, sym, ap, subst, fun-ext, _∙_}
-use mathlib.Core.Bool.{Bool, true, false}
-use mathlib.Core.List.{List}
-use mathlib.Core.Logic.{_⊎_, ⊎-elim}
+use mathlib.Core.Path.{_≡_, refl, sym, ap, subst, _∙_}
+use mathlib.Core.Logic.{_⊎_}
 use mathlib.Core.Option.{none, some}
-use Prim.Native.Nat.{ℕ, suc, _+_, _-_, _<_}
+use Prim.Native.Nat.{ℕ, suc, _+_, _<_}
 use native.Mathlib.Omega.{arith}
-use borrow.Author.Tests.{eq-eqb, ne-eqb}
-use lib.Dec.{eqb}
-use lib.ListN.{length}
 use Rattle.lists.specs.Lists.{bit}
-use Rattle.machine.specs.Basics.{if_then_else_}
 use Rattle.machine.specs.Machine.{Sizes, Machine, Process, free, process, asleep, asleepOn}
 use Rattle.machine.specs.Good.{Each}
-use Rattle.machine.specs.Update.{withUp, withProcess, withResume, withOnWaitr}
+use Rattle.machine.specs.Update.{withUp, withProcess, withResume}
 use Rattle.layout.specs.Memory.{Memory, alter, setField}
-use Rattle.chain.specs.Lists.{Absent, all-map, all-both}
+use Rattle.chain.specs.Lists.{all-map, all-both}
 use Rattle.chain.specs.Links.{alter-same, alter-other}
 use Rattle.state.specs.Fields as fields
-use Rattle.state.specs.Abs.{table, linkTo, resumeOf, runList, waiterList, timerList, exitList, waitsOn, exitAt, processAt, machineOf}
+use Rattle.state.specs.Abs.{linkTo, resumeOf, runList, waiterList, timerList, exitList, waitsOn, exitAt, processAt, machineOf}
 use Rattle.state.specs.Tables.{table-length}
 use Rattle.state.specs.WellFormed.{Used, Blank}
 use Rattle.state.specs.Blanks.{no-link}
-use Rattle.rules.specs.Facts.{RunOk, SleepsHere, WaitsHere}
+use Rattle.rules.specs.Facts.{SleepsHere, WaitsHere}
 use Rattle.exact.specs.Bounds.{InBounds, inside}
-use Rattle.exact.specs.Parts.{usedAt, used-at, used-of, process-of}
-use Rattle.queue.specs.Other.{absent-by}
+use Rattle.exact.specs.Parts.{usedAt, used-at, used-of}
 use Rattle.holds.specs.Holds.{Placed}
 use Rattle.holds.specs.Parts.{table-same, table-set, asleep-process}
-use Rattle.places.specs.Nowhere.{Nowhere, unlinked-state, unlinked-call, blanks-call, each-alter, at-or-other, waits-state, waits-call, waits-alike, not-running, not-ready, not-asleep, not-waiting, state-used, waiting-state}
-use Rattle.places.specs.Machines.{recordWith, record-with}
+use Rattle.places.specs.Nowhere.{Nowhere, unlinked-state, unlinked-call, blanks-call, each-alter, at-or-other, waits-state, waits-alike, not-ready, not-asleep, not-waiting, state-used}
+use Rattle.places.specs.Machines.{recordWith}
 
 -- asleep is stored anew: one more, or one less, is owed.
 abbrev pub asleepMem : Memory → ℕ → Memory

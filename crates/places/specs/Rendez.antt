@@ -1,30 +1,28 @@
 -- A Rendez in the memory of a state: a process goes asleep there, and the sleeper is taken off.
 use mathlib.Core.Path.{_≡_, refl, sym, ap, subst, _∙_}
-use mathlib.Core.Bool.{Bool, false}
-use mathlib.Core.List.{List}
 use mathlib.Core.Logic.{_⊎_, ⊎-elim}
 use mathlib.Core.Option.{Option, none, some}
 use Prim.Native.Nat.{ℕ, suc, _+_, _<_}
 use native.Mathlib.Omega.{arith}
 use lib.ListN.{length}
-use Rattle.machine.specs.Machine.{Sizes, Machine, sleeper, asleep}
-use Rattle.machine.specs.Good.{Each, runningIn}
+use Rattle.machine.specs.Machine.{Sizes, sleeper, asleep}
+use Rattle.machine.specs.Good.{runningIn}
 use Rattle.machine.specs.Update.{withSleeper}
-use Rattle.layout.specs.Memory.{Memory, alter, setField, upd}
-use Rattle.chain.specs.Lists.{Absent, all-map, all-both}
+use Rattle.layout.specs.Memory.{Memory, alter, setField}
+use Rattle.chain.specs.Lists.{all-map, all-both}
 use Rattle.chain.specs.Links.{alter-same, alter-other}
 use Rattle.state.specs.Fields as fields
-use Rattle.state.specs.Abs.{table, linkTo, runList, waiterList, timerList, exitList, waitsOn, exitAt, processAt, machineOf}
+use Rattle.state.specs.Abs.{linkTo, runList, waiterList, timerList, exitList, waitsOn, exitAt, processAt, machineOf}
 use Rattle.state.specs.Tables.{table-length}
 use Rattle.state.specs.WellFormed.{Used}
 use Rattle.state.specs.Blanks.{no-wait}
-use Rattle.rules.specs.Facts.{RunOk, SleepsHere, WaitsHere}
+use Rattle.rules.specs.Facts.{SleepsHere, WaitsHere}
 use Rattle.exact.specs.Bounds.{InBounds, inside}
 use Rattle.exact.specs.Parts.{sleeper-of}
 use Rattle.queue.specs.Other.{absent-by}
 use Rattle.holds.specs.Holds.{Placed}
 use Rattle.holds.specs.Parts.{table-same, table-set, asleep-sleeper}
-use Rattle.places.specs.Nowhere.{Nowhere, unlinked-state, each-alter, at-or-other, waits-call, waits-alike, not-running, not-ready, state-used, waiting-state}
+use Rattle.places.specs.Nowhere.{Nowhere, unlinked-state, each-alter, at-or-other, waits-call, waits-alike, not-running, not-ready, state-used}
 use Rattle.places.specs.Machines.{recordWith}
 
 -- The call of i is a `sleep` or a `tsleep` on Rendez r.

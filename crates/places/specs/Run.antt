@@ -1,27 +1,26 @@
 -- The run queue in the memory of a state: a process is readied, and the first is taken off.
 use mathlib.Core.Path.{_≡_, refl, sym, ap, subst, _∙_}
-use mathlib.Core.Bool.{Bool, false}
 use mathlib.Core.List.{List, [], _∷_, _++_}
-use Prim.Native.Nat.{ℕ, zero, suc, _+_, _<_}
+use Prim.Native.Nat.{ℕ, suc, _+_, _<_}
 use native.Mathlib.Omega.{arith}
-use Rattle.machine.specs.Machine.{Sizes, Machine, Process, Lock, asleep, asleepOn}
+use Rattle.machine.specs.Machine.{Sizes, Machine, asleep, asleepOn}
 use Rattle.machine.specs.Good.{Each}
 use Rattle.machine.specs.Update.{withRun}
 use Rattle.machine.specs.Places.{ready}
 use Rattle.layout.specs.Memory.{Memory, alter, setField}
 use Rattle.lists.specs.Lists.{each-append}
 use Rattle.chain.specs.Lists.{Absent, Distinct, all-map, all-both}
-use Rattle.chain.specs.Links.{walk, Queue, pushLinks, pushFirst, popLast, queue-push, queue-pop, chain-walk, alter-same, alter-other}
+use Rattle.chain.specs.Links.{Queue, pushLinks, pushFirst, popLast, queue-push, queue-pop, chain-walk, alter-same, alter-other}
 use Rattle.state.specs.Fields as fields
-use Rattle.state.specs.Abs.{table, linkTo, isSet, runList, waiterList, timerList, exitList, waitsOn, exitAt, processAt, machineOf}
+use Rattle.state.specs.Abs.{table, linkTo, runList, waiterList, timerList, exitList, waitsOn, exitAt, processAt, machineOf}
 use Rattle.state.specs.WellFormed.{Used}
 use Rattle.state.specs.Blanks.{is-linked-ready}
-use Rattle.rules.specs.Facts.{RunOk, SleepsHere, WaitsHere}
+use Rattle.rules.specs.Facts.{SleepsHere, WaitsHere}
 use Rattle.queue.specs.Other.{Apart, LinkAbsent, apart-by, final-absent, after-push, queue-alter}
 use Rattle.holds.specs.Holds.{Placed}
 use Rattle.holds.specs.Parts.{table-same}
 use Rattle.places.specs.Nowhere.{Nowhere, unlinked-state, unlinked-pop, unlinked-push, each-alter, at-or-other, waits-state, waits-alike, waiting-state, not-running, not-asleep, not-waiting, state-used}
-use Rattle.places.specs.Machines.{recordWith, record-with, locks-same}
+use Rattle.places.specs.Machines.{recordWith, locks-same}
 
 -- The memory once i has state 2 and stands last in the run queue.
 abbrev pub readyMem : Memory → ℕ → Memory

@@ -1,7 +1,7 @@
 -- The stores that push to and pop from a queue of processes go to records that are in use.
 use mathlib.Core.Path.{_≡_, refl, sym, subst, _∙_}
 use mathlib.Core.List.{List, [], _∷_}
-use Prim.Native.Nat.{ℕ, zero, suc, _<_}
+use Prim.Native.Nat.{ℕ, zero, suc}
 use native.Mathlib.Omega.{arith}
 use Rattle.machine.specs.Machine.{Sizes}
 use Rattle.machine.specs.Good.{Each}

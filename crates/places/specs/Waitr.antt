@@ -1,26 +1,23 @@
 -- The own waitr of a process in the memory of a state: it goes asleep there, and is taken off.
-use mathlib.Core.Path.{_≡_, refl, sym, ap, subst, fun-ext, _∙_}
+use mathlib.Core.Path.{_≡_, refl, sym, ap, _∙_}
 use mathlib.Core.Bool.{Bool, true, false}
-use mathlib.Core.List.{List}
 use mathlib.Core.Logic.{_⊎_, ⊎-elim}
 use Prim.Native.Nat.{ℕ, suc, _+_, _<_}
 use native.Mathlib.Omega.{arith}
-use borrow.Author.Tests.{eq-eqb, ne-eqb, eqb-true}
+use borrow.Author.Tests.{eq-eqb, eqb-true}
 use lib.Dec.{eqb}
 use Rattle.lists.specs.Lists.{bit}
-use Rattle.machine.specs.Basics.{if_then_else_}
-use Rattle.machine.specs.Machine.{Sizes, Machine, Process, free, process, asleep}
-use Rattle.machine.specs.Good.{Each}
+use Rattle.machine.specs.Machine.{Sizes, Process, free, process, asleep}
 use Rattle.machine.specs.Update.{withProcess, withOnWaitr}
 use Rattle.layout.specs.Memory.{Memory, alter, setField}
 use Rattle.chain.specs.Lists.{Absent, all-map, all-both}
 use Rattle.chain.specs.Links.{alter-same, alter-other}
 use Rattle.state.specs.Fields as fields
-use Rattle.state.specs.Abs.{table, linkTo, runList, waiterList, timerList, exitList, waitsOn, exitAt, processAt, machineOf}
+use Rattle.state.specs.Abs.{linkTo, runList, waiterList, timerList, exitList, waitsOn, exitAt, processAt, machineOf}
 use Rattle.state.specs.Tables.{table-length}
 use Rattle.state.specs.WellFormed.{Used}
 use Rattle.state.specs.Blanks.{no-wait}
-use Rattle.rules.specs.Facts.{RunOk, SleepsHere, WaitsHere}
+use Rattle.rules.specs.Facts.{SleepsHere}
 use Rattle.exact.specs.Bounds.{InBounds, inside}
 use Rattle.exact.specs.Parts.{usedAt, used-at, used-of}
 use Rattle.queue.specs.Other.{absent-by}

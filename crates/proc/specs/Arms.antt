@@ -1,8 +1,8 @@
 -- Each case of what the step bytes ask.
 use mathlib.Core.Path.{_≡_, refl, sym, ap, subst, _∙_}
-use mathlib.Core.Bool.{Bool, false}
-use mathlib.Core.List.{List, []}
-use mathlib.Core.Option.{Option, none, some}
+use mathlib.Core.Bool.{Bool}
+use mathlib.Core.List.{List}
+use mathlib.Core.Option.{Option, some}
 use Prim.Native.Nat.{ℕ, _+_, _-_, _≤_}
 use native.Mathlib.Omega.{arith}
 use lib.ListN.{length, take, drop}
@@ -21,10 +21,10 @@ use Rattle.outcome.specs.declared.Reply.the-variants.{Refused}
 use Rattle.outcome.specs.Stepped.{Well}
 use Rattle.outcome.specs.Took.{Took}
 use Rattle.outcome.specs.Refusals.{step}
-use Rattle.proc_exit.specs.Exit.{ExitAsks, Exited}
-use Rattle.proc_sched.specs.Sched.{SchedAsks, SchedTook}
+use Rattle.proc_exit.specs.Exit.{Exited}
+use Rattle.proc_sched.specs.Sched.{SchedTook}
 use Rattle.proc_sleep.specs.Yield.{Yielded}
-use Rattle.proc_wait.specs.Wait.{WaitStepAsks, WaitTook}
+use Rattle.proc_wait.specs.Wait.{WaitTook}
 use Rattle.proc.specs.Plain.{Plain, took-plain}
 use Rattle.proc.specs.Silent.{tells}
 use Rattle.proc.specs.Taken.{Taken, taken-step, taken-plain, taken-none}

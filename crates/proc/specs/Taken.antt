@@ -1,16 +1,12 @@
 -- What a step of any kind asks and ensures.
-use mathlib.Core.Path.{_≡_, refl, sym, ap, subst, _∙_}
+use mathlib.Core.Path.{_≡_, refl, sym, ap, _∙_}
 use mathlib.Core.Bool.{Bool, true, false, true≢false}
 use mathlib.Core.List.{List, [], _++_}
 use mathlib.Core.Option.{Option, none, some}
 use Prim.Native.Nat.{ℕ, _≤_, _<_}
-use native.Mathlib.Omega.{arith}
 use borrow.Author.Tests.{lt-ltb, le-ltb}
-use lib.Dec.{ltb}
 use lib.ListN.{length, take, drop}
 use lib.Seq.{take-append-seam, take-length}
-use Rattle.machine.specs.Basics.{if_then_else_}
-use Rattle.machine.specs.Machine.{Machine}
 use Rattle.machine.specs.Step.{Step, Body}
 use Rattle.machine.specs.Outcome as reply
 use Rattle.machine.specs.Outcome.{Outcome, refused}
@@ -43,8 +39,8 @@ abbrev pub given : Sizes → List ℕ → Option Step → List ℕ → Outcome
 given z s x b = outcomeOf (machineIn z s) x (length b)
 
 -- It took the state s to s′ and the message buffer b to b′, with the reply r: answer and machine are the definition's, the message told
--- is at the front of the message buffer and no other byte of it is written, no byte of the state is written but of fields that the machine
--- uses before or after, and a refusal leaves the bytes.
+-- is at the front of the message buffer and no other byte of it is written, no byte of the state is written but of fields, what the machine then
+-- neither uses nor has cleared stays, and a refusal leaves the bytes.
 pub record Taken (z : Sizes) (s s′ : List ℕ) (x : Option Step) (b b′ : List ℕ) (r : Reply) : Type 0 where
   pub holds : Holds z s′ 0
   pub reply : means r b′ (statusIn x) ≡ given z s x b .reply

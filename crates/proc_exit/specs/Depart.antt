@@ -8,7 +8,7 @@ use native.Mathlib.Omega.{arith}
 use borrow.Author.Tests.{lt-ltb}
 use lib.ListN.{length}
 use Rattle.machine.specs.Basics.{isNone}
-use Rattle.machine.specs.Machine.{Machine, Process, free, process, pidOf, living}
+use Rattle.machine.specs.Machine.{Machine, Process, process, pidOf}
 use Rattle.machine.specs.Good.{Lives, children}
 use Rattle.machine.specs.Exits.{found, freeCell, without, hasRoom, messageDue, tellParent}
 use Rattle.state.specs.Fields as fields
@@ -25,6 +25,7 @@ use Rattle.exact.specs.Parts.{used-of, pid-of}
 use Rattle.holds.specs.Holds.{Holds}
 use Rattle.holds.specs.Whole.{holds-bounds}
 use Rattle.holds.specs.Did.{machineIn}
+use Rattle.holds.specs.Leftover.{alive-kin}
 use Rattle.holds.specs.Touched.{Spares, spares-gone}
 use Rattle.ages.specs.Found.{found-named}
 use Rattle.ages.specs.Parent.{ParentFound}
@@ -162,5 +163,5 @@ module _ {z : Sizes} {s : List ℕ} {i link : ℕ} (a : DepartAsks z s i link) w
                 (ap (λ (x : Process). x .name) (used-of (holds-bounds (a .well .holds)) i used) ∙ sym (o .text))
                 here
                 ∙ ap (λ (x : Machine). tellParent (process M i) status x .machine) (d .machine);
-            spares = spares-gone (d .spares) (d .smaller) (t .spares) (t .kin);
+            spares = spares-gone (d .spares) (d .smaller) (t .spares) (alive-kin (t .kin));
           }

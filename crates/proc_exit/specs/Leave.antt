@@ -1,10 +1,10 @@
 -- A process goes: it runs no more, and its cells and its record are free.
-use mathlib.Core.Path.{_≡_, refl, sym, ap, _∙_}
+use mathlib.Core.Path.{_≡_, refl, sym, ap, subst, _∙_}
 use mathlib.Core.List.{List, []}
 use mathlib.Core.Option.{none, some}
 use Prim.Native.Nat.{ℕ, zero, suc}
 use native.Mathlib.Omega.{arith}
-use Rattle.machine.specs.Machine.{Machine, Process, free, process}
+use Rattle.machine.specs.Machine.{Machine, free, process}
 use Rattle.machine.specs.Update.{withUp, withProcess, withExits}
 use Rattle.machine.specs.Exits.{found, without}
 use Rattle.layout.specs.Memory.{Memory}
@@ -15,9 +15,11 @@ use Rattle.state.specs.WellFormed.{Used}
 use Rattle.state.specs.declared.Sizes.{Sizes}
 use Rattle.holds.specs.Holds.{Holds}
 use Rattle.holds.specs.Did.{machineIn}
-use Rattle.holds.specs.Use.{kin-at, fewer-same, Smaller, smaller-join, same-use}
-use Rattle.holds.specs.Touched.{Touched, Spares, settled-kin, spares-after, spares-fewer, spares-did, touched-did}
+use Rattle.holds.specs.Use.{fewer-same, between-first, Smaller, smaller-join, same-use}
+use Rattle.holds.specs.Leftover.{Steady, quiet-steady}
+use Rattle.holds.specs.Touched.{Touched, Spares, spares-join, spares-did, touched-did}
 use Rattle.places.specs.Nowhere.{state-used}
+use Rattle.places.specs.Own.{stopMem}
 use Rattle.dat.specs.Own.{StopAsks, Stopped}
 use Rattle.waitq.specs.Clear.{ClearAsks, ClearDone}
 use Rattle.records.specs.ReleaseCode.{ReleaseAsks, Released}
@@ -35,6 +37,20 @@ pub record Left (z : Sizes) (s s′ : List ℕ) (i : ℕ) : Type 0 where
   pub found : (q : ℕ) → (memIn z s fields.pid i ≡ q → ⊥) → found q (machineIn z s′) ≡ found q (machineIn z s)
   pub spares : Spares z s s′
   pub smaller : Smaller z (memIn z s) (memIn z s′)
+
+-- To run no more leaves what a record keeps.
+stop-steady : (m : Memory) → Steady m (stopMem m)
+stop-steady m =
+    record {
+      calm = record { parents = refl; deadlines = refl; exitPids = refl; lengths = refl; bytes = refl };
+      parents = refl;
+      quanta = refl;
+      children = refl;
+      kinds = refl;
+      conditions = refl;
+      objects = refl;
+      names = refl;
+    }
 
 -- A link to i is i's.
 link-is : (l i : ℕ) → linkTo l ≡ some i → l ≡ suc i
@@ -77,7 +93,8 @@ module _ {z : Sizes} {s : List ℕ} {i : ℕ} (a : LeaveAsks z s i) where
       -- What the code shows.
       pub left : {s₃ : List ℕ} → Released z s₂ s₃ i → Left z s s₃ i
       left d =
-          let same : Touched z s₁ s₂ = touched-did (t .did) (same-use refl refl refl refl refl refl) in
+          let same : Touched z s₁ s₂ = touched-did (t .did) (same-use refl refl refl refl refl refl refl refl refl) in
+          let steady : Steady (memIn z s₁) (memIn z s₂) = subst (Steady (memIn z s₁)) (sym (t .did .memory)) (stop-steady (memIn z s₁)) in
           record {
             holds = d .did .holds 0 (t .did .holds 0 (c .did .holds 0 (a .holds)));
             machine =
@@ -88,6 +105,9 @@ module _ {z : Sizes} {s : List ℕ} {i : ℕ} (a : LeaveAsks z s i) where
                 d .found q (λ e. ne (sym same-pid ∙ e))
                 ∙ ap (found q) then
                 ∙ found-still (machineIn z s) i q;
-            spares = spares-fewer (spares-did (c .did) (settled-kin (kin-at (sym (c .did .memory)) (c .fewer .kin)))) (c .fewer) (spares-after same (spares-did (d .did) (record { stays = λ j u. refl })));
+            spares =
+                spares-join (spares-did (c .did) (c .ceased))
+                (spares-join (same .spares) (spares-did (d .did) (d .ceased)) (between-first (fewer-same (same .same))) (quiet-steady steady))
+                (between-first (c .fewer)) (quiet-steady (c .steady));
             smaller = smaller-join (c .fewer) (smaller-join (fewer-same (same .same)) (d .smaller));
           }

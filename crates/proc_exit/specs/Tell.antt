@@ -25,7 +25,8 @@ use Rattle.holds.specs.Holds.{Holds}
 use Rattle.holds.specs.Whole.{holds-bounds}
 use Rattle.holds.specs.Did.{machineIn}
 use Rattle.holds.specs.Use.{SameKin, kin-at, kin-join, same-use}
-use Rattle.holds.specs.Touched.{Spares, settled-kin, spares-after, spares-before, spares-did, touched-did}
+use Rattle.holds.specs.Leftover.{alive-kin}
+use Rattle.holds.specs.Touched.{Spares, spares-after, spares-before, spares-did, touched-did}
 use Rattle.free.specs.Highest.{highestFree}
 use Rattle.free.specs.FreeCell.{free-cell}
 use Rattle.dat.specs.Waitr.{OwnAsks, WokeOwn}
@@ -55,7 +56,7 @@ module _ {z : Sizes} {s s₁ : List ℕ} {j pid : ℕ} {name status : List ℕ} 
       record {
         holds = λ n h. w .holds n (q .did .holds n h);
         machine = w .machine ∙ ap (λ (y : Machine). wakeWaitr j y .machine) (q .did .machine);
-        spares = spares-before (spares-did (q .did) (settled-kin added-kin)) (w .touched);
+        spares = spares-before (spares-did (q .did) (q .ceased)) (w .touched);
         kin = kin-join (kin-at (q .did .memory) added-kin) (w .touched .same .kin);
       }
 
@@ -134,8 +135,8 @@ module _ {z : Sizes} {s : List ℕ} {j : ℕ} (a : TellAsks z s j) where
           holds = h₁;
           machine = λ child f g q.
               then ∙ sym (told-full (machineIn z s) child status j q (le-ltb (length (process (machineIn z s) j .exits)) 128 (omega (arith, number, l))));
-          spares = spares-did (p .did) (settled-kin (record { pids = refl; parents = refl }));
-          kin = kin-at (p .did .memory) (record { pids = refl; parents = refl });
+          spares = touched-did (p .did) (same-use refl refl refl refl refl refl refl refl refl) .spares;
+          kin = kin-at (p .did .memory) (record { pids = refl });
         }
 
     pub tell-add : k < 128 → AddAsks z s₁ j
@@ -161,6 +162,6 @@ module _ {z : Sizes} {s : List ℕ} {j : ℕ} (a : TellAsks z s j) where
               ∙ ap (λ (y : Machine). wakeWaitr j y .machine) (added pid name status)
               ∙ ap₂ (λ (v : ℕ) (w : List ℕ). wakeWaitr j (withProcess j (queued (machineIn z s) j v w status) (machineIn z s)) .machine) (sym f) (sym g)
               ∙ sym (told-room (machineIn z s) child status j x (lt-ltb (length (process (machineIn z s) j .exits)) 128 (omega (arith, number, l))));
-          spares = spares-after (touched-did (p .did) (same-use refl refl refl refl refl refl)) (q .spares);
-          kin = kin-join (kin-at (p .did .memory) (record { pids = refl; parents = refl })) (q .kin);
+          spares = spares-after (touched-did (p .did) (same-use refl refl refl refl refl refl refl refl refl)) (q .spares) (alive-kin (q .kin));
+          kin = kin-join (kin-at (p .did .memory) (record { pids = refl })) (q .kin);
         }

@@ -174,7 +174,7 @@ module _ {z : Sizes} {s : List ℕ} {i : ℕ} (a : ForkAsks z s i) where
                   (t .did .machine
                   ∙ ap (λ (n : ℕ). withProcess i (withNchild n (process (machineIn z s) i)) (machineIn z s))
                   (add-one (p .nchild) ∙ ap suc nchild-is));
-              spares = spares-after (touched-did (t .did) (same-use refl refl refl refl refl refl)) (d .spares);
+              spares = spares-after (touched-did (t .did) (same-use refl refl refl refl refl refl refl refl refl)) (d .spares) (d .alive);
             }
 
 -- What the calls of `adopt` ask.

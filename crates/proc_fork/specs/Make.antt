@@ -1,5 +1,5 @@
 -- rfork with RFPROC: what the code shows at each return.
-use mathlib.Core.Path.{_≡_, refl, sym, ap, subst, _∙_}
+use mathlib.Core.Path.{_≡_, refl, sym, ap, _∙_}
 use mathlib.Core.Bool.{Bool, true, false}
 use mathlib.Core.List.{List, [], _∷_}
 use mathlib.Core.Option.{some}
@@ -8,7 +8,7 @@ use native.Mathlib.Omega.{arith}
 use borrow.Author.Tests.{eq-eqb, ne-eqb}
 use lib.Dec.{eqb}
 use Rattle.machine.specs.Basics.{if_then_else_}
-use Rattle.machine.specs.Machine.{Machine, process}
+use Rattle.machine.specs.Machine.{Machine}
 use Rattle.machine.specs.Step.{rfork, openStep}
 use Rattle.machine.specs.Flags.{has, bad, RFPROC, RFNOWAIT}
 use Rattle.machine.specs.Table.{inRange, openTable}
@@ -61,7 +61,7 @@ module _ {z : Sizes} {s : List ℕ} {M : ℕ} (a : SpendAsks z s) where
         holds = t .did .holds 0 (a .holds);
         bytes = rw (eq-eqb M 3 e) (t .did .bytes);
         machine = rw (eq-eqb M 3 e) (t .did .machine);
-        touched = touched-did (t .did) (same-use refl refl refl refl refl refl);
+        touched = touched-did (t .did) (same-use refl refl refl refl refl refl refl refl refl);
       }
 
   pub spend-none : (M ≡ 3 → ⊥) → Spent z s s M

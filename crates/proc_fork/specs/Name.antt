@@ -17,7 +17,8 @@ use Rattle.state.specs.Fields as fields
 use Rattle.state.specs.Places.{memIn}
 use Rattle.state.specs.declared.Sizes.{Sizes}
 use Rattle.holds.specs.Did.{machineIn}
-use Rattle.holds.specs.Touched.{settled-kin, spares-did}
+use Rattle.holds.specs.Use.{same-use}
+use Rattle.holds.specs.Touched.{touched-did}
 use Rattle.records.specs.Rename.{NameAsks, NameSet}
 use Rattle.outcome.specs.declared.Reply as code
 use Rattle.outcome.specs.declared.Reply.the-variants.{Done, Refused}
@@ -65,7 +66,7 @@ module _ {z : Sizes} {s bytes : List ℕ} (a : NameStepAsks z s bytes) (h : Byte
             let u : machineIn z s .up ≡ some (l - 1) = somebody-up z s l e ne in
             record {
               stepped =
-                  stepped-done (allowed-name (machineIn z s) k bytes name-range f u) (d .did .holds 0 (a .well .holds)) (spares-did (d .did) (settled-kin (record { pids = refl; parents = refl }))) refl refl
+                  stepped-done (allowed-name (machineIn z s) k bytes name-range f u) (d .did .holds 0 (a .well .holds)) (touched-did (d .did) (same-use refl refl refl refl refl refl refl refl refl) .spares) refl refl
                   (d .did .machine
                   ∙ ap (λ (t : List ℕ). withProcess (l - 1) (withName t (process (machineIn z s) (l - 1))) (machineIn z s)) (p .text)
                   ∙ ap (λ (i : ℕ). withProcess i (withName (padding bytes) (process (machineIn z s) i)) (machineIn z s))

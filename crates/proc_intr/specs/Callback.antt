@@ -70,7 +70,7 @@ called-tick {z} {s} {s′} {t} a e b =
         machine = rw e (b .machine);
         readied = rw e;
         flags = ap (λ (x : Memory). x fields.isQueued) (b .memory);
-        deadlines = ap (λ (x : Memory). x fields.deadline) (b .memory);
+        periods = ap (λ (x : Memory). x fields.period) (b .memory);
         touched = b .touched;
       };
     }

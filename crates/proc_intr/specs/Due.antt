@@ -4,7 +4,8 @@ use mathlib.Core.Bool.{Bool, true, false}
 use mathlib.Core.List.{List, [], _∷_}
 use Prim.Native.Nat.{ℕ, suc, _+_, _-_, _<_}
 use native.Mathlib.Omega.{arith}
-use lib.Dec.{T}
+use borrow.Author.Tests.{eqb-true, eqb-false}
+use lib.Dec.{T, eqb}
 use Rattle.machine.specs.Machine.{Machine, Queued, pidOf}
 use Rattle.machine.specs.Timers.{callback, readd}
 use Rattle.machine.specs.TimersLaws.{NoneDue}
@@ -17,8 +18,10 @@ use Rattle.exact.specs.Parts.{pid-of}
 use Rattle.holds.specs.Holds.{Holds}
 use Rattle.holds.specs.Whole.{holds-bounds}
 use Rattle.holds.specs.Did.{machineIn}
-use Rattle.holds.specs.Use.{kin-join, Fewer}
+use Rattle.holds.specs.Use.{used, kin-join, Calm}
+use Rattle.holds.specs.Leftover.{alive-kin}
 use Rattle.holds.specs.Touched.{Spares, spares-fewer}
+use Rattle.timer.specs.Rounds.{periodIn, period-same, Rounds, rounds-same}
 use Rattle.timer.specs.Due.{Later, HeadDue, PoppedDue}
 use Rattle.outcome.specs.Stepped.{Well}
 use Rattle.proc_intr.specs.Fire.{timerAt, FireAsks, Fired}
@@ -36,7 +39,9 @@ pub record FiredDue (z : Sizes) (s s′ : List ℕ) (reading : ℕ) (b : Bool) :
   pub later : b ≡ false → NoneDue reading (machineIn z s .queued)
   pub fires : b ≡ true → OneFired (machineIn z s) (machineIn z s′) reading
   pub spares : Spares z s s′
-  pub fewer : Fewer z (memIn z s) (memIn z s′)
+  -- nothing more is used
+  pub fewer : (f i : ℕ) → used z (memIn z s) f i ≡ 0 → used z (memIn z s′) f i ≡ 0
+  pub rounds : Rounds z (memIn z s) (memIn z s′)
 
 not-both : true ≡ false → ⊥
 not-both e = subst T e tt
@@ -56,7 +61,8 @@ due-none {z} {s} {s₁} {reading} {l} a p e =
       later = λ _. none-due reading (machineIn z s .queued) (q .later refl);
       fires = λ x. absurd (not-both (sym x));
       spares = p .spares;
-      fewer = p .fewer;
+      fewer = p .fewer .fewer;
+      rounds = rounds-same (ap (memIn z) b);
     }
 
 -- The link of a timer.
@@ -85,7 +91,7 @@ due-fire {z} {s} {s₁} {reading} {l} a p ne =
             subst (λ (y : ℕ). 0 < y) (pid-of (holds-bounds holds) (t - z .timers)) v;
       };
       off = p .off t (link-suc l ne);
-      small = omega (arith, ap (λ (k : ℕ → ℕ). k t) (p .deadlines), h .due, a .last, a .well .good .inRange .lastNow);
+      small = omega (arith, ap (λ (k : ℕ → ℕ). k t) (p .fewer .calm .deadlines), h .due, a .last, a .well .good .inRange .lastNow);
     }
 
 -- The machine after the head fired, as the definition has it.
@@ -99,9 +105,41 @@ fires-as {z} {s} {s₁} {s₂} {reading} {t} p f =
       due = h .due;
       machine =
           f .machine
-          ∙ ap (λ (k : ℕ → ℕ). readd (record { timer = t; deadline = k t }) (callback t (machineIn z s₁) .machine)) (p .deadlines)
+          ∙ ap (λ (k : ℕ → ℕ). readd (record { timer = t; deadline = k t }) (callback t (machineIn z s₁) .machine)) (p .fewer .calm .deadlines)
           ∙ ap (λ (y : Machine). readd (timerAt (memIn z s) t) (callback t y .machine)) (h .machine);
     }
+
+-- The head, taken off, fires: where it is periodic it returns.
+fired-rounds
+    : {z : Sizes} {s s₁ s₂ : List ℕ} {reading l : ℕ} → PoppedDue z s s₁ reading l → (l ≡ 0 → ⊥) → Fired z s₁ s₂ (l - 1) → Rounds z (memIn z s) (memIn z s₂)
+fired-rounds {z} {s} {s₁} {s₂} {reading} {l} p ne f =
+    let c : Calm (memIn z s) (memIn z s₁) = p .fewer .calm in
+    record {
+      periods = f .rounds .periods ∙ p .periods;
+      once = λ t e. f .rounds .once t (same t ∙ e) ∙ ap (λ (g : ℕ → ℕ). g t) (c .deadlines);
+      stays = λ t d u. stays t (λ e. d (sym (same t) ∙ e)) u (eqb (l - 1) t) refl;
+      kin = kin-join (p .fewer .kin) (f .rounds .kin);
+      parents = f .rounds .parents ∙ c .parents;
+      exitPids = f .rounds .exitPids ∙ c .exitPids;
+      lengths = f .rounds .lengths ∙ c .lengths;
+      bytes = f .rounds .bytes ∙ c .bytes;
+    }
+  where
+    same : (t : ℕ) → periodIn z (memIn z s₁) t ≡ periodIn z (memIn z s) t
+    same t = period-same z (memIn z s) (memIn z s₁) t (p .periods)
+
+    stays
+        : (t : ℕ)
+        → (periodIn z (memIn z s₁) t ≡ 0 → ⊥)
+        → 0 < memIn z s fields.isQueued t
+        → (b : Bool)
+        → eqb (l - 1) t ≡ b
+        → 0 < memIn z s₂ fields.isQueued t
+    stays t d u true e =
+        let q : l - 1 ≡ t = eqb-true (l - 1) t e in
+        subst (λ (x : ℕ). 0 < memIn z s₂ fields.isQueued x) q (f .back (λ y. d (ap (periodIn z (memIn z s₁)) (sym q) ∙ y)))
+    stays t d u false e =
+        f .rounds .stays t d (omega (arith, u, p .others t (λ y. eqb-false (l - 1) t e (omega (arith, y)))))
 
 pub due-fired
     : {z : Sizes} {s s₁ s₂ : List ℕ} {reading l : ℕ}
@@ -118,6 +156,7 @@ due-fired {z} {s} {s₁} {s₂} {reading} {l} a p ne f =
       bytes = λ x. absurd (not-both x);
       later = λ x. absurd (not-both x);
       fires = λ _. o;
-      spares = spares-fewer (p .spares) (p .fewer) (f .spares);
-      fewer = record { fewer = λ g i x. f .uses (memIn z s) (p .on (l - 1) (link-suc l ne)) .between g i x (p .fewer .fewer g i x); kin = kin-join (p .fewer .kin) (f .kin) };
+      spares = spares-fewer (p .spares) (p .fewer) (f .spares) (alive-kin (f .rounds .kin));
+      fewer = λ g i x. f .uses (memIn z s) (p .on (l - 1) (link-suc l ne)) .between g i x (p .fewer .fewer g i x);
+      rounds = fired-rounds p ne f;
     }

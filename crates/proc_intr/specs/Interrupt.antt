@@ -12,8 +12,9 @@ use Rattle.machine.specs.TimersLaws.{NoneDue}
 use Rattle.state.specs.Places.{memIn}
 use Rattle.state.specs.declared.Sizes.{Sizes}
 use Rattle.holds.specs.Did.{machineIn}
-use Rattle.holds.specs.Use.{kin-same, Fewer, fewer-join}
-use Rattle.holds.specs.Touched.{Spares, spares-none, spares-fewer}
+use Rattle.holds.specs.Use.{used, SameKin}
+use Rattle.holds.specs.Touched.{Spares, spares-none, spares-join}
+use Rattle.timer.specs.Rounds.{Rounds, rounds-join, rounds-same, rounds-quiet}
 use Rattle.outcome.specs.Stepped.{Well}
 use Rattle.proc_intr.specs.OneFired.{OneFired, one-less}
 use Rattle.proc_intr.specs.Due.{DueAsks, FiredDue}
@@ -25,6 +26,7 @@ pub record Interrupted (z : Sizes) (s s′ : List ℕ) (reading n : ℕ) : Type 
   pub machine : machineIn z s′ ≡ interrupt reading (machineIn z s) .machine
   pub count : n ≡ interrupt reading (machineIn z s) .count
   pub spares : Spares z s s′
+  pub kin : SameKin (memIn z s) (memIn z s′)
 
 -- What firing has done so far, at machine M with n fired.
 abbrev soFar : Machine → ℕ → ℕ → List ℕ → Firing
@@ -41,7 +43,8 @@ pub record Interrupting (z : Sizes) (s₀ s : List ℕ) (reading n : ℕ) : Type
   pub goes : fireDue bound reading (soFar (machineIn z s) n ticks readied) ≡ interrupt reading (machineIn z s₀)
   pub room : n + bound ≤ 18446744073709551615
   pub spares : Spares z s₀ s
-  pub fewer : Fewer z (memIn z s₀) (memIn z s)
+  pub fewer : (f i : ℕ) → used z (memIn z s₀) f i ≡ 0 → used z (memIn z s) f i ≡ 0
+  pub rounds : Rounds z (memIn z s₀) (memIn z s)
 
 -- Nothing has fired.
 pub int-start : {z : Sizes} {s : List ℕ} {reading : ℕ} → DueAsks z s reading → Interrupting z s s reading 0
@@ -56,7 +59,8 @@ int-start {z} {s} {reading} a =
       goes = refl;
       room = omega (arith, owed-room a);
       spares = spares-none;
-      fewer = record { fewer = λ f i e. e; kin = kin-same refl };
+      fewer = λ f i e. e;
+      rounds = rounds-same refl;
     }
 
 -- The definition, where nothing is due and where the head is.
@@ -106,6 +110,11 @@ pub int-room
     → n + 1 < 2 ^ 64
 int-room i d e = omega (arith, i .owed, i .room, int-less d e)
 
+-- One round after others.
+spares-rounds
+    : {z : Sizes} {s₀ s s′ : List ℕ} {reading n : ℕ} {b : Bool} → Interrupting z s₀ s reading n → FiredDue z s s′ reading b → Spares z s₀ s′
+spares-rounds i d = spares-join (i .spares) (d .spares) (record { between = λ f j a b. i .fewer f j a }) (rounds-quiet (i .rounds) (d .rounds))
+
 pub int-step
     : {z : Sizes} {s₀ s s′ : List ℕ} {reading n : ℕ} {b : Bool}
     → Interrupting z s₀ s reading n
@@ -133,8 +142,9 @@ int-step {z} {s₀} {s} {s′} {reading} {n} i d e =
           ∙ ap (λ (k : ℕ). fireDue k reading f) (sym c)
           ∙ i .goes;
       room = omega (arith, i .room, c);
-      spares = spares-fewer (i .spares) (i .fewer) (d .spares);
-      fewer = fewer-join (i .fewer) (d .fewer);
+      spares = spares-rounds i d;
+      fewer = λ g j x. d .fewer g j (i .fewer g j x);
+      rounds = rounds-join (i .rounds) (d .rounds);
     }
 
 pub int-end
@@ -150,5 +160,6 @@ int-end {z} {s₀} {s} {s′} {reading} {n} i d e =
       well = d .again .well;
       machine = ap (machineIn z) (d .bytes e) ∙ ap (λ (y : Firing). y .machine) x;
       count = ap (λ (y : Firing). y .count) x;
-      spares = spares-fewer (i .spares) (i .fewer) (d .spares);
+      spares = spares-rounds i d;
+      kin = rounds-join (i .rounds) (d .rounds) .kin;
     }

@@ -19,14 +19,14 @@ abbrev pub linkStores : Memory → ℕ → ℕ → List Write
 linkStores m r zero = []
 linkStores m r (suc i) = wakeStores m r i
 
--- The stores ws made of the machine that of w, and who was readied for w is who the link l names. The timers' flags and deadlines stay.
+-- The stores ws made of the machine that of w, and who was readied for w is who the link l names. The timers' flags and periods stay.
 pub record Readies (z : Sizes) (s s′ : List ℕ) (ws : List Write) (w : Woken) (l : ℕ) : Type 0 where
   pub holds : (n : ℕ) → Holds z s n → Holds z s′ n
   pub bytes : s′ ≡ writesIn z s ws
   pub machine : machineIn z s′ ≡ w .machine
   pub readied : pidsOf (memIn z s) l ≡ w .readied
   pub flags : memIn z s′ fields.isQueued ≡ memIn z s fields.isQueued
-  pub deadlines : memIn z s′ fields.deadline ≡ memIn z s fields.deadline
+  pub periods : memIn z s′ fields.period ≡ memIn z s fields.period
   pub touched : Touched z s s′
 
 -- Nobody is readied, and nothing else done.
@@ -41,7 +41,7 @@ readies-none w e =
       machine = ap (λ (x : Woken). x .machine) (sym e);
       readied = ap (λ (x : Woken). x .readied) (sym e);
       flags = refl;
-      deadlines = refl;
+      periods = refl;
       touched = touched-none;
     }
 
@@ -49,7 +49,7 @@ readies-none w e =
 record Left (z : Sizes) (s s′ : List ℕ) (r l : ℕ) : Type 0 where
   bytes : s′ ≡ writesIn z s (linkStores (memIn z s) r l)
   flags : memIn z s′ fields.isQueued ≡ memIn z s fields.isQueued
-  deadlines : memIn z s′ fields.deadline ≡ memIn z s fields.deadline
+  periods : memIn z s′ fields.period ≡ memIn z s fields.period
 
 left : {z : Sizes} {s s′ : List ℕ} {r l : ℕ} → Woke z s s′ r l → Left z s s′ r l
 left {z} {s} {s′} {r} {l} k = go l refl
@@ -57,12 +57,12 @@ left {z} {s} {s′} {r} {l} k = go l refl
     go : (v : ℕ) → l ≡ v → Left z s s′ r v
     go zero q =
         let b : s′ ≡ s = k .nobody q in
-        record { bytes = b; flags = ap (λ (x : List ℕ). memIn z x fields.isQueued) b; deadlines = ap (λ (x : List ℕ). memIn z x fields.deadline) b }
+        record { bytes = b; flags = ap (λ (x : List ℕ). memIn z x fields.isQueued) b; periods = ap (λ (x : List ℕ). memIn z x fields.period) b }
     go (suc i) q =
         record {
           bytes = k .somebody i q .bytes;
           flags = ap (λ (x : Memory). x fields.isQueued) (k .somebody i q .memory);
-          deadlines = ap (λ (x : Memory). x fields.deadline) (k .somebody i q .memory);
+          periods = ap (λ (x : Memory). x fields.period) (k .somebody i q .memory);
         }
 
 pub readies-woke
@@ -77,7 +77,7 @@ readies-woke w k e =
       machine = k .machine ∙ ap (λ (x : Woken). x .machine) (sym e);
       readied = k .readied ∙ ap (λ (x : Woken). x .readied) (sym e);
       flags = left k .flags;
-      deadlines = left k .deadlines;
+      periods = left k .periods;
       touched = k .touched;
     }
 
@@ -95,6 +95,6 @@ readies-as {z} {s} {s′} {l = l} r d e =
       machine = r .machine ∙ ap (λ (x : Woken). x .machine) (sym e);
       readied = r .readied ∙ ap (λ (x : Woken). x .readied) (sym e);
       flags = r .flags;
-      deadlines = r .deadlines;
+      periods = r .periods;
       touched = r .touched;
     }

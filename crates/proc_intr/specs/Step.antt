@@ -1,7 +1,7 @@
 -- The step: what the code shows at each return.
 use mathlib.Core.Path.{_≡_, refl, sym, ap, subst, _∙_}
 use mathlib.Core.Bool.{Bool, true, false, _||_}
-use mathlib.Core.List.{List, []}
+use mathlib.Core.List.{List}
 use mathlib.Core.Option.{none}
 use Prim.Native.Nat.{ℕ, _/_, _^_, _-_, _≤_, _<_}
 use native.Mathlib.Omega.{arith}
@@ -10,7 +10,7 @@ use mir.Val.{Fits}
 use borrow.Author.Tests.{lt-ltb, le-ltb}
 use lib.Dec.{ltb}
 use Rattle.machine.specs.Machine.{Machine}
-use Rattle.machine.specs.Step.{Body, intr}
+use Rattle.machine.specs.Step.{intr}
 use Rattle.machine.specs.Update.{withLastNow}
 use Rattle.machine.specs.Timers.{Firing, interrupt}
 use Rattle.machine.specs.Table.{refusal, inRange, badNow}
@@ -25,6 +25,7 @@ use Rattle.state.specs.Abs.{machineOf}
 use Rattle.state.specs.Places.{memIn}
 use Rattle.state.specs.declared.Sizes.{Sizes}
 use Rattle.holds.specs.Did.{machineIn}
+use Rattle.holds.specs.Leftover.{alive-kin}
 use Rattle.holds.specs.Touched.{Touched, spares-after}
 use Rattle.clockwork.specs.Stores.{Became}
 use Rattle.clockwork.specs.Clock.{nowStores}
@@ -32,7 +33,7 @@ use Rattle.outcome.specs.declared.Reply as code
 use Rattle.outcome.specs.declared.Reply.the-variants.{Fired, Refused}
 use Rattle.outcome.specs.Means.{means, told}
 use Rattle.outcome.specs.Took.{Took}
-use Rattle.outcome.specs.Stepped.{Well, Stepped, leftBytes}
+use Rattle.outcome.specs.Stepped.{Well, leftBytes}
 use Rattle.outcome.specs.Laws.{stepped-done, stepped-refused}
 use Rattle.outcome.specs.Refusals.{step}
 use Rattle.outcome.specs.RefusalsRange.{range-intr}
@@ -138,7 +139,7 @@ intr-done {z} {s} {s₁} {s₂} {reading} {n} a e w i =
     let t : perform (intr reading) M .reply ≡ answer (Answer.fired n (n / 20000)) = intr-reply M reading f refl ∙ rw c in
     record {
       stepped = λ k.
-          stepped-done (allowed a k) (i .well .holds) (spares-after w (i .spares)) (sym t) (ap told (sym t))
+          stepped-done (allowed a k) (i .well .holds) (spares-after w (i .spares) (alive-kin (i .kin))) (sym t) (ap told (sym t))
           (i .machine ∙ ap (λ (x : Machine). interrupt reading x .machine) e ∙ sym (intr-after M reading));
     }
 

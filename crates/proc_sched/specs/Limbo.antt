@@ -22,8 +22,9 @@ use Rattle.exact.specs.Parts.{pid-of}
 use Rattle.holds.specs.Holds.{Holds}
 use Rattle.holds.specs.Whole.{holds-bounds}
 use Rattle.holds.specs.Did.{machineIn}
-use Rattle.holds.specs.Use.{same-use, Fewer}
-use Rattle.holds.specs.Touched.{Touched, touched-join, touched-did, Spares, settled-kin, spares-did, spares-fewer}
+use Rattle.holds.specs.Use.{SameKin, kin-join, same-use, Fewer}
+use Rattle.holds.specs.Leftover.{alive-kin}
+use Rattle.holds.specs.Touched.{Touched, touched-join, touched-did, Spares, spares-fewer}
 use Rattle.places.specs.Nowhere.{Nowhere}
 use Rattle.places.specs.Rendez.{CallsRendez}
 use Rattle.dat.specs.Asleep.{asleepIn}
@@ -59,7 +60,7 @@ dispatched {i = i} l c r =
     record {
       holds = r .did .holds 0 (c .did .holds 0 (l .holds));
       machine = r .did .machine ∙ ap (withUp (some i)) (c .did .machine);
-      touched = touched-join (touched-did (c .did) (same-use refl refl refl refl refl refl)) (touched-did (r .did) (same-use refl refl refl refl refl refl));
+      touched = touched-join (touched-did (c .did) (same-use refl refl refl refl refl refl refl refl refl)) (touched-did (r .did) (same-use refl refl refl refl refl refl refl refl refl));
     }
 
 pub limbo-low : {z : Sizes} {s : List ℕ} {i : ℕ} → Limbo z s i → i < z .processes
@@ -73,6 +74,7 @@ pub record Went (z : Sizes) (s s′ : List ℕ) (o : Outcome) (m : List ℕ) (r 
   pub long : lengthOf r ≡ length m
   pub machine : machineIn z s′ ≡ o .after
   pub spares : Spares z s s′
+  pub kin : SameKin (memIn z s) (memIn z s′)
 
 -- The same, from before what was written first.
 pub went-from
@@ -88,7 +90,8 @@ went-from t u w =
       told = w .told;
       long = w .long;
       machine = w .machine;
-      spares = spares-fewer t u (w .spares);
+      spares = spares-fewer t u (w .spares) (alive-kin (w .kin));
+      kin = kin-join (u .kin) (w .kin);
     }
 
 pub record RunsOn (z : Sizes) (s s′ : List ℕ) (i : ℕ) (r : code.Reply) : Type 0 where
@@ -108,6 +111,7 @@ runs-on {z} {s} {s₁} {i} {p} l e d =
             long = refl;
             machine = d .machine;
             spares = d .touched .spares;
+            kin = d .touched .same .kin;
           };
     }
 
@@ -169,6 +173,7 @@ sleeps-same m i r u = ap (withSleeper r (some i)) (stays m i u)
 pub slept-again : {z : Sizes} {s s₁ : List ℕ} {i r : ℕ} → AgainAsks z s i r → Slept z s s₁ i r → SleptAgain z s s₁ i r Asleep
 unfolding openPerform openOutcome means told
 slept-again {z} {s} {s₁} {i} {r} a p =
+    let y : Touched z s s₁ = touched-did (p .did) (same-use refl refl refl refl refl refl refl refl refl) in
     record {
       went =
           record {
@@ -177,6 +182,7 @@ slept-again {z} {s} {s₁} {i} {r} a p =
             told = refl;
             long = refl;
             machine = p .did .machine ∙ sym (sleeps-same (machineIn z s) i r (up-none (a .limbo)));
-            spares = spares-did (p .did) (settled-kin (record { pids = refl; parents = refl }));
+            spares = y .spares;
+            kin = y .same .kin;
           };
     }

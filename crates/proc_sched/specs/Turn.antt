@@ -1,14 +1,14 @@
 -- The first of the run queue is taken off, gets its quantum and goes on: what the code shows.
 use mathlib.Core.Path.{_≡_, refl, sym, ap, ap₂, subst, _∙_}
 use mathlib.Core.Bool.{false}
-use mathlib.Core.List.{List, [], _∷_, _++_}
+use mathlib.Core.List.{List, _∷_, _++_}
 use Prim.Native.Nat.{ℕ, suc, _+_, _-_, _≤_, _<_}
 use native.Mathlib.Omega.{arith}
 use lib.ListN.{length, drop}
 use Rattle.machine.specs.Machine as machine
-use Rattle.machine.specs.Machine.{Machine, free, process, asleep}
+use Rattle.machine.specs.Machine.{Machine, free, process}
 use Rattle.machine.specs.Good.{ProcessInRange, ResumeInRange, Each}
-use Rattle.machine.specs.Table.{taken, takenAgain}
+use Rattle.machine.specs.Table.{takenAgain}
 use Rattle.machine.specs.Outcome.{Outcome}
 use Rattle.machine.specs.Perform.{resumes, schedOf}
 use Rattle.lists.specs.Lists.{each-get}
@@ -164,7 +164,7 @@ module _ {z : Sizes} {s s₁ : List ℕ} {i l : ℕ} {c : Resume} {b : List ℕ}
 
     -- it was taken off and has its quantum
     begun : Touched z s s₂
-    begun = touched-join (touched-did (one .did) (same-use refl refl refl refl refl refl)) (q .touched)
+    begun = touched-join (touched-did (one .did) (same-use refl refl refl refl refl refl refl refl refl)) (q .touched)
 
     pub turned : {s₃ b₁ : List ℕ} {r : code.Reply} → WentOn z s₂ s₃ i c b b₁ r → Turned z s s₃ b b₁ r
     turned {s₃} {b₁} {r} w =

@@ -22,7 +22,8 @@ use Rattle.state.specs.declared.Sizes.{Sizes}
 use Rattle.exact.specs.Parts.{used-of, pid-of}
 use Rattle.holds.specs.Whole.{holds-bounds}
 use Rattle.holds.specs.Did.{machineIn}
-use Rattle.holds.specs.Touched.{settled-kin, spares-before, spares-did}
+use Rattle.holds.specs.Use.{kin-join, same-use}
+use Rattle.holds.specs.Touched.{Touched, touched-did, spares-before}
 use Rattle.places.specs.Nowhere.{Nowhere}
 use Rattle.dat.specs.Waitr.{WaitAsks, Waited}
 use Rattle.waitq.specs.Push.{headStores}
@@ -101,6 +102,7 @@ finished {z} {s} {s₁} {s₂} {i} {p} {b} {b₁} {g} f e t d =
             long = t .long;
             machine = y;
             spares = spares-before (t .spares) (d .touched);
+            kin = kin-join (t .kin) (d .touched .same .kin);
           };
       buffer = t .buffer;
     }
@@ -179,6 +181,7 @@ wait-slept {z} {s} {s₁} {i} {n} {b} a e d w =
     let q : (waitChecks i (machineIn z s) .reply ≡ answer Answer.asleep) × (waitChecks i (machineIn z s) .after ≡ sleepOnWaitr i machine.inWait (machineIn z s)) =
     checks-none (machineIn z s) i (no-exits a (sym e ∙ d))
     in
+    let y : Touched z s s₁ = touched-did (w .did) (same-use refl refl refl refl refl refl refl refl refl) in
     record {
       message = [];
       went =
@@ -188,7 +191,8 @@ wait-slept {z} {s} {s₁} {i} {n} {b} a e d w =
             told = ap told (sym (q .0));
             long = refl;
             machine = w .did .machine ∙ sym (again (machineIn z s) i (up-none (a .limbo)) (waiting a)) ∙ sym (q .1);
-            spares = spares-did (w .did) (settled-kin (record { pids = refl; parents = refl }));
+            spares = y .spares;
+            kin = y .same .kin;
           };
       buffer = refl;
     }

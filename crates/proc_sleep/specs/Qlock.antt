@@ -2,39 +2,38 @@
 use mathlib.Core.Path.{_≡_, refl, sym, ap, subst, _∙_}
 use mathlib.Core.Bool.{Bool, true, false, not, _&&_}
 use mathlib.Core.List.{List, [], _∷_, _++_}
-use mathlib.Core.Option.{Option, none, some}
-use Prim.Native.Nat.{ℕ, zero, suc, _-_, _≤_, _<_}
+use mathlib.Core.Option.{none, some}
+use Prim.Native.Nat.{ℕ, suc, _-_, _<_}
 use native.Mathlib.Omega.{arith}
 use borrow.Author.Tests.{lt-ltb}
 use Rattle.machine.specs.Basics.{if_then_else_, isNone}
 use Rattle.machine.specs.Machine as machine
-use Rattle.machine.specs.Machine.{Machine, Lock, process, lock}
+use Rattle.machine.specs.Machine.{Machine, process, lock}
 use Rattle.machine.specs.Step.{qlock}
 use Rattle.machine.specs.Table.{refusal, heldLock, inRange}
 use Rattle.machine.specs.Outcome.{Answer, answer, openOutcome}
 use Rattle.machine.specs.Update.{withUp, withLock, withProcess, withResume}
 use Rattle.machine.specs.Places.{queueOn}
-use Rattle.machine.specs.Perform.{perform, current, openPerform}
+use Rattle.machine.specs.Perform.{perform, openPerform}
 use Rattle.machine.specs.StepOf.{leftBy}
 use Rattle.layout.specs.Memory.{Memory}
 use Rattle.chain.specs.Links.{alter-same}
 use Rattle.state.specs.Fields as fields
 use Rattle.state.specs.Abs.{machineOf}
-use Rattle.state.specs.Places.{sizesIn, memIn}
+use Rattle.state.specs.Places.{memIn}
 use Rattle.state.specs.declared.Sizes.{Sizes}
 use Rattle.record.specs.declared.Resume.the-variants.{Qlock}
 use Rattle.holds.specs.Holds.{Holds}
 use Rattle.holds.specs.Did.{machineIn}
 use Rattle.holds.specs.Use.{same-use}
 use Rattle.holds.specs.Touched.{Touched, touched-same, touched-join, touched-did}
-use Rattle.places.specs.Lock.{CallsLock}
 use Rattle.dat.specs.Asleep.{asleepIn}
 use Rattle.dat.specs.Own.{StopAsks, Stopped, CallAsks, Called}
 use Rattle.qlock.specs.Queue.{LockAsks, EnqueueAsks, Enqueued}
 use Rattle.qlock.specs.Hold.{Tried}
 use Rattle.outcome.specs.declared.Reply as code
 use Rattle.outcome.specs.declared.Reply.the-variants.{Done, Asleep, Refused}
-use Rattle.outcome.specs.Means.{means, told, statusOf}
+use Rattle.outcome.specs.Means.{means, told}
 use Rattle.outcome.specs.Stepped.{Well, Stepped, leftBytes}
 use Rattle.outcome.specs.Laws.{stepped-done, stepped-refused}
 use Rattle.outcome.specs.Refusals.{step}
@@ -115,7 +114,7 @@ queued {z} {s} {s₁} {s₂} {s₃} {i} {q} a t d p =
           (d .did .machine ∙ ap (λ (x : Machine). withProcess i (withResume (machine.inQlock q) (process x i)) x) (t .did .machine))
           (a .held);
       touched =
-          touched-join (touched-join (touched-did (t .did) (same-use refl refl refl refl refl refl)) (touched-did (d .did) (same-use refl refl refl refl refl refl))) (touched-did (p .did) (same-use refl refl refl refl refl refl));
+          touched-join (touched-join (touched-did (t .did) (same-use refl refl refl refl refl refl refl refl refl)) (touched-did (d .did) (same-use refl refl refl refl refl refl refl refl refl))) (touched-did (p .did) (same-use refl refl refl refl refl refl refl refl refl));
     }
 
 -- qlock
@@ -175,7 +174,7 @@ qlock-done {z} {s} {s₁} {q} {k} {t} a w e =
     record {
       stepped =
           stepped-done (qlock-number k a ∙ rw (h, off k, off (isNone (machineIn z s .up)))) (w .yes e .holds 0 (a .well .holds))
-          (touched-did (w .yes e) (same-use refl refl refl refl refl refl) .spares) (sym (p .0)) (ap told (sym (p .0)))
+          (touched-did (w .yes e) (same-use refl refl refl refl refl refl refl refl refl) .spares) (sym (p .0)) (ap told (sym (p .0)))
           (w .yes e .machine ∙ sym (p .1));
     }
 

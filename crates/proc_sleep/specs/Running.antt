@@ -1,22 +1,19 @@
 -- Who runs, as the code reads it.
-use mathlib.Core.Path.{_≡_, refl, sym, ap, subst, _∙_}
+use mathlib.Core.Path.{_≡_, refl, sym, ap, _∙_}
 use mathlib.Core.List.{List}
-use mathlib.Core.Option.{Option, none, some, Option·getD}
-use Prim.Native.Nat.{ℕ, zero, suc, _-_, _≤_, _<_}
+use mathlib.Core.Option.{none, some}
+use Prim.Native.Nat.{ℕ, suc, _-_}
 use native.Mathlib.Omega.{arith}
 use Rattle.machine.specs.Machine.{Machine}
 use Rattle.machine.specs.Perform.{current}
 use Rattle.layout.specs.Memory.{Memory}
 use Rattle.state.specs.Fields as fields
 use Rattle.state.specs.Abs.{linkTo, machineOf}
-use Rattle.state.specs.Places.{sizesIn, memIn}
+use Rattle.state.specs.Places.{memIn}
 use Rattle.state.specs.declared.Sizes.{Sizes}
-use Rattle.exact.specs.Bounds.{at-most}
 use Rattle.holds.specs.Holds.{Holds}
-use Rattle.holds.specs.Whole.{holds-bounds}
 use Rattle.holds.specs.Did.{machineIn}
-use Rattle.places.specs.Nowhere.{Nowhere}
-use Rattle.dat.specs.Own.{StopAsks, Stopped}
+use Rattle.dat.specs.Own.{Stopped}
 
 up-in : (z : Sizes) (s : List ℕ) → machineIn z s .up ≡ linkTo (memIn z s fields.up 0)
 unfolding machineOf

@@ -1,13 +1,13 @@
 -- sleep: what the code shows at each return.
 use mathlib.Core.Path.{_≡_, refl, sym, ap, subst, _∙_}
 use mathlib.Core.Bool.{Bool, true, false, not, _&&_}
-use mathlib.Core.List.{List, [], _∷_}
-use mathlib.Core.Logic.{_⊎_, inl, inr}
-use mathlib.Core.Option.{Option, none, some}
-use Prim.Native.Nat.{ℕ, zero, suc, _-_, _≤_, _<_}
+use mathlib.Core.List.{List, []}
+use mathlib.Core.Logic.{_⊎_, inl}
+use mathlib.Core.Option.{none, some}
+use Prim.Native.Nat.{ℕ, suc, _-_, _≤_, _<_}
 use native.Mathlib.Omega.{arith}
 use borrow.Author.Tests.{lt-ltb}
-use Rattle.machine.specs.Basics.{if_then_else_, isNone, isSome}
+use Rattle.machine.specs.Basics.{if_then_else_, isNone}
 use Rattle.machine.specs.Machine as machine
 use Rattle.machine.specs.Machine.{Machine, process, sleeper, condition}
 use Rattle.machine.specs.Step.{sleep}
@@ -15,13 +15,13 @@ use Rattle.machine.specs.Table.{refusal, taken, inRange}
 use Rattle.machine.specs.Outcome.{Answer, answer, openOutcome}
 use Rattle.machine.specs.Update.{withUp, withSleeper, withProcess, withResume}
 use Rattle.machine.specs.Places.{sleepOn}
-use Rattle.machine.specs.Perform.{perform, current, openPerform}
+use Rattle.machine.specs.Perform.{perform, openPerform}
 use Rattle.machine.specs.StepOf.{leftBy}
-use Rattle.layout.specs.Memory.{Memory, alter}
+use Rattle.layout.specs.Memory.{Memory}
 use Rattle.chain.specs.Links.{alter-same}
 use Rattle.state.specs.Fields as fields
 use Rattle.state.specs.Abs.{linkTo, machineOf}
-use Rattle.state.specs.Places.{sizesIn, memIn}
+use Rattle.state.specs.Places.{memIn}
 use Rattle.state.specs.declared.Sizes.{Sizes}
 use Rattle.record.specs.declared.Resume.{Resume}
 use Rattle.record.specs.declared.Resume.the-variants.{Sleep}
@@ -32,8 +32,6 @@ use Rattle.holds.specs.Whole.{holds-bounds}
 use Rattle.holds.specs.Did.{machineIn}
 use Rattle.holds.specs.Use.{same-use}
 use Rattle.holds.specs.Touched.{Touched, spares-none, touched-join, touched-did}
-use Rattle.places.specs.Nowhere.{Nowhere}
-use Rattle.places.specs.Rendez.{CallsRendez}
 use Rattle.dat.specs.Asleep.{asleepIn}
 use Rattle.dat.specs.Own.{StopAsks, Stopped, CallAsks, Called}
 use Rattle.dat.specs.Rendez.{SleepAsks, Slept}
@@ -41,7 +39,7 @@ use Rattle.timer.specs.Only.{Owing}
 use Rattle.clockwork.specs.Conditions.{Condition}
 use Rattle.outcome.specs.declared.Reply as code
 use Rattle.outcome.specs.declared.Reply.the-variants.{Done, Asleep, Refused}
-use Rattle.outcome.specs.Means.{means, told, statusOf}
+use Rattle.outcome.specs.Means.{means, told}
 use Rattle.outcome.specs.Stepped.{Well, Stepped, leftBytes}
 use Rattle.outcome.specs.Laws.{stepped-done, stepped-refused}
 use Rattle.outcome.specs.Refusals.{step}
@@ -120,7 +118,7 @@ fell-asleep {z} {s} {s₁} {s₂} {s₃} {i} {r} {c} a t d p =
           ∙ ap (withSleeper r (some i)) (d .did .machine ∙ ap (λ (x : Machine). withProcess i (withResume (meaning c) (process x i)) x) (t .did .machine))
           ∙ sleep-on (machineIn z s) i r (meaning c);
       touched =
-          touched-join (touched-join (touched-did (t .did) (same-use refl refl refl refl refl refl)) (touched-did (d .did) (same-use refl refl refl refl refl refl))) (touched-did (p .did) (same-use refl refl refl refl refl refl));
+          touched-join (touched-join (touched-did (t .did) (same-use refl refl refl refl refl refl refl refl refl)) (touched-did (d .did) (same-use refl refl refl refl refl refl refl refl refl))) (touched-did (p .did) (same-use refl refl refl refl refl refl refl refl refl));
     }
 
 -- sleep

@@ -1,23 +1,18 @@
 -- yield: what the code shows at each return.
-use mathlib.Core.Path.{_≡_, refl, sym, ap, subst, _∙_}
+use mathlib.Core.Path.{_≡_, refl, sym, ap, _∙_}
 use mathlib.Core.Bool.{Bool, true, false}
-use mathlib.Core.List.{List, [], _∷_}
-use mathlib.Core.Option.{Option, none, some}
-use Prim.Native.Nat.{ℕ, zero, suc, _-_, _≤_, _<_}
-use native.Mathlib.Omega.{arith}
-use Rattle.machine.specs.Basics.{if_then_else_, isNone}
-use Rattle.machine.specs.Machine.{Machine}
+use mathlib.Core.List.{List, []}
+use mathlib.Core.Option.{none, some}
+use Prim.Native.Nat.{ℕ, _-_}
 use Rattle.machine.specs.Step.{yield}
-use Rattle.machine.specs.Table.{refusal}
-use Rattle.machine.specs.Outcome.{answer, openOutcome}
+use Rattle.machine.specs.Outcome.{openOutcome}
 use Rattle.machine.specs.Update.{withUp}
 use Rattle.machine.specs.Places.{ready}
-use Rattle.machine.specs.Perform.{perform, current, openPerform}
+use Rattle.machine.specs.Perform.{openPerform}
 use Rattle.machine.specs.StepOf.{leftBy}
 use Rattle.state.specs.Fields as fields
-use Rattle.state.specs.Places.{sizesIn, memIn}
+use Rattle.state.specs.Places.{memIn}
 use Rattle.state.specs.declared.Sizes.{Sizes}
-use Rattle.holds.specs.Holds.{Holds}
 use Rattle.holds.specs.Did.{machineIn}
 use Rattle.holds.specs.Use.{same-use}
 use Rattle.holds.specs.Touched.{touched-join, touched-did}
@@ -25,7 +20,7 @@ use Rattle.dat.specs.Run.{ReadyAsks, Readied}
 use Rattle.dat.specs.Own.{StopAsks, Stopped}
 use Rattle.outcome.specs.declared.Reply as code
 use Rattle.outcome.specs.declared.Reply.the-variants.{Done, Refused}
-use Rattle.outcome.specs.Means.{means, told, statusOf}
+use Rattle.outcome.specs.Means.{means, told}
 use Rattle.outcome.specs.Stepped.{Well, Stepped, leftBytes}
 use Rattle.outcome.specs.Laws.{stepped-done, stepped-refused}
 use Rattle.outcome.specs.Refusals.{step}
@@ -72,7 +67,7 @@ yield-done {z} {s} {s₁} {s₂} {k} {l} w f e ne t r =
     record {
       stepped =
           stepped-done (refusal-yield (machineIn z s) k ∙ rw (f, u)) (r .did .holds 0 (t .did .holds 0 (w .holds)))
-          (touched-join (touched-did (t .did) (same-use refl refl refl refl refl refl)) (touched-did (r .did) (same-use refl refl refl refl refl refl)) .spares) refl refl
+          (touched-join (touched-did (t .did) (same-use refl refl refl refl refl refl refl refl refl)) (touched-did (r .did) (same-use refl refl refl refl refl refl refl refl refl)) .spares) refl refl
           (r .did .machine
           ∙ ap (ready (l - 1)) (t .did .machine)
           ∙ ap (λ (i : ℕ). ready i (withUp none (machineIn z s))) (sym (current-is (machineIn z s) (l - 1) u)));

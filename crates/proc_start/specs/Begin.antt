@@ -14,7 +14,8 @@ use Rattle.record.specs.declared.Proc.{Proc}
 use Rattle.holds.specs.Holds.{Holds}
 use Rattle.holds.specs.Did.{machineIn}
 use Rattle.holds.specs.Use.{same-use}
-use Rattle.holds.specs.Touched.{Spares, spares-before, spares-did, touched-did}
+use Rattle.holds.specs.Leftover.{Alive, alive-kin, alive-join}
+use Rattle.holds.specs.Touched.{Touched, Spares, spares-before, spares-did, touched-did}
 use Rattle.dat.specs.Run.{ReadyAsks, Readied}
 use Rattle.records.specs.Names.{IsName}
 use Rattle.records.specs.New.{Newcomer}
@@ -34,6 +35,7 @@ pub record Begun (z : Sizes) (s s′ : List ℕ) (p : Proc) : Type 0 where
   pub holds : Holds z s′ 0
   pub machine : machineIn z s′ ≡ made (p .text) (p .parent) (machineIn z s)
   pub spares : Spares z s s′
+  pub alive : Alive (memIn z s) (memIn z s′)
 
 pub begin-alloc : {z : Sizes} {s : List ℕ} {p : Proc} → BeginAsks z s p → AllocAsks z s p
 begin-alloc a = record { owed = 0; holds = a .holds; new = a .new; room = a .pid; link = a .link; text = a .text }
@@ -55,12 +57,14 @@ module _ {z : Sizes} {s s₁ : List ℕ} {p : Proc} {r : ℕ} (a : BeginAsks z s
   begin-ready = record { owed = 0; holds = made-one .did .holds 0 (a .holds); nowhere = made-one .nowhere }
 
   pub begun : {s₂ : List ℕ} → Readied z s₁ s₂ (r - 1) → Begun z s s₂ p
-  begun d =
+  begun {s₂} d =
+      let y : Touched z s₁ s₂ = touched-did (d .did) (same-use refl refl refl refl refl refl refl refl refl) in
       record {
         holds = d .did .holds 0 (made-one .did .holds 0 (a .holds));
         machine =
             d .did .machine
             ∙ ap (ready (r - 1)) (made-one .did .machine)
             ∙ born-made (machineIn z s) (r - 1) p (made-one .found);
-        spares = spares-before (spares-did (made-one .did) (made-one .settled)) (touched-did (d .did) (same-use refl refl refl refl refl refl));
+        spares = spares-before (spares-did (made-one .did) (made-one .ceased)) y;
+        alive = alive-join (made-one .alive) (alive-kin (y .same .kin));
       }

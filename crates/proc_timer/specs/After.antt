@@ -10,6 +10,8 @@ use Rattle.state.specs.Places.{memIn}
 use Rattle.state.specs.declared.Sizes.{Sizes}
 use Rattle.holds.specs.Holds.{Holds}
 use Rattle.holds.specs.Did.{machineIn}
+use Rattle.holds.specs.Use.{SameKin, kin-join}
+use Rattle.holds.specs.Leftover.{alive-kin}
 use Rattle.holds.specs.Touched.{Spares, spares-after}
 use Rattle.timers.specs.Find.{timersIn}
 use Rattle.timer.specs.Only.{Owing}
@@ -34,6 +36,7 @@ pub record AddedAfter (z : Sizes) (s s′ : List ℕ) (t n counts : ℕ) : Type 
   pub memory : memIn z s′ ≡ afterMem z (memIn z s) t n counts
   pub machine : machineIn z s′ ≡ add t (n + counts) (withLastNow n (machineIn z s))
   pub spares : Spares z s s′
+  pub kin : SameKin (memIn z s) (memIn z s′)
 
 -- What the code of `add_after` shows.
 pub added-after
@@ -47,5 +50,6 @@ added-after {z} {s} {s₁} {s₂} {t} {n} {counts} b a =
       owing = a .owing;
       memory = a .memory ∙ ap (λ (m : Memory). addMem z m t (n + counts)) (b .memory);
       machine = a .machine ∙ ap (add t (n + counts)) (b .machine);
-      spares = spares-after (b .touched) (a .spares);
+      spares = spares-after (b .touched) (a .spares) (alive-kin (a .kin));
+      kin = kin-join (b .touched .same .kin) (a .kin);
     }

@@ -19,6 +19,7 @@ use Rattle.exact.specs.Bounds.{at-most}
 use Rattle.holds.specs.Holds.{Holds}
 use Rattle.holds.specs.Whole.{holds-bounds}
 use Rattle.holds.specs.Did.{machineIn}
+use Rattle.holds.specs.Leftover.{alive-kin}
 use Rattle.holds.specs.Touched.{Spares, spares-after, spares-before}
 use Rattle.timer.specs.Only.{Owing}
 use Rattle.timer.specs.Del.{TimerAsks, Deleted}
@@ -66,7 +67,7 @@ returned {z} {s} {s₁} {s₂} {i} {n} a b d =
     record {
       holds = d .holds 0 (b .holds 0 (a .holds));
       machine = d .machine ∙ ap (delete (z .timers + i)) (b .machine);
-      spares = spares-after (b .touched) (d .spares);
+      spares = spares-after (b .touched) (d .spares) (alive-kin (d .fewer .kin));
     }
 
 -- It goes asleep on Rendez r, where nobody is, its timer so many counts after the reading.

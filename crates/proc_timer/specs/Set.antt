@@ -13,6 +13,7 @@ use Rattle.machine.specs.Timers.{add}
 use Rattle.state.specs.declared.Sizes.{Sizes}
 use Rattle.holds.specs.Holds.{Holds}
 use Rattle.holds.specs.Did.{machineIn}
+use Rattle.holds.specs.Leftover.{alive-kin}
 use Rattle.holds.specs.Touched.{Spares, spares-after}
 use Rattle.timer.specs.Only.{Owing}
 use Rattle.clockwork.specs.Stores.{Became}
@@ -83,5 +84,5 @@ set-after {z} {s} {s₁} {s₂} {t} {kind} {r} {n} {counts} {p} y b a =
           ∙ ap (λ (m : Machine). add t (n + counts) (withLastNow n m)) (b .machine)
           ∙ ap (add t (n + counts)) (set-now t p r n (machineIn z s))
           ∙ ap (λ (x : ℕ). add t (n + counts) (withSetting t (settingOf x r) (withLastNow n (machineIn z s)))) (y .answer);
-      spares = spares-after (b .touched) (a .spares);
+      spares = spares-after (b .touched) (a .spares) (alive-kin (a .kin));
     }

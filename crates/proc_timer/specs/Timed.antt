@@ -3,7 +3,7 @@ use mathlib.Core.Path.{_≡_, refl, sym, ap, subst, _∙_}
 use mathlib.Core.Bool.{Bool, true, false, _&&_, and-false}
 use mathlib.Core.List.{List}
 use mathlib.Core.Option.{Option, none, some}
-use Prim.Native.Nat.{ℕ, _+_, _-_}
+use Prim.Native.Nat.{ℕ, _+_}
 use mir.Syntax.{w8}
 use mir.Val.{Fits}
 use lib.Dec.{eqb}

@@ -16,7 +16,7 @@ use Rattle.chain.specs.Links.{alter-same}
 use Rattle.state.specs.Fields as fields
 use Rattle.state.specs.Abs.{processAt, machineOf}
 use Rattle.state.specs.Tables.{table-length}
-use Rattle.state.specs.Places.{sizesIn, memIn}
+use Rattle.state.specs.Places.{memIn}
 use Rattle.state.specs.declared.Sizes.{Sizes}
 use Rattle.record.specs.declared.Resume.the-variants.{Wait}
 use Rattle.exact.specs.Bounds.{at-most}
@@ -104,7 +104,7 @@ went-asleep {z} {s} {s₁} {s₂} {s₃} {i} a t d p =
           (d .did .machine ∙ ap (λ (x : Machine). withProcess i (withResume machine.inWait (process x i)) x) (t .did .machine))
           (omega (arith, table-length (z .processes) (processAt (memIn z s)), low));
       touched =
-          touched-join (touched-join (touched-did (t .did) (same-use refl refl refl refl refl refl)) (touched-did (d .did) (same-use refl refl refl refl refl refl))) (touched-did (p .did) (same-use refl refl refl refl refl refl));
+          touched-join (touched-join (touched-did (t .did) (same-use refl refl refl refl refl refl refl refl refl)) (touched-did (d .did) (same-use refl refl refl refl refl refl refl refl refl))) (touched-did (p .did) (same-use refl refl refl refl refl refl refl refl refl));
     }
   where
     low : i < z .processes

@@ -1,9 +1,9 @@
 -- wait: what the code shows at each return.
 use mathlib.Core.Path.{_≡_, refl, sym, ap, ap₂, subst, _∙_}
-use mathlib.Core.Bool.{Bool, true, false, not, _&&_}
+use mathlib.Core.Bool.{Bool, true, false, _&&_}
 use mathlib.Core.List.{List, [], _∷_, _++_}
-use mathlib.Core.Option.{Option, none, some}
-use Prim.Native.Nat.{ℕ, zero, suc, _+_, _-_, _*_, _≤_, _<_}
+use mathlib.Core.Option.{some}
+use Prim.Native.Nat.{ℕ, suc, _+_, _-_, _*_, _≤_, _<_}
 use native.Mathlib.Omega.{arith}
 use lib.Dec.{eqb, lit<}
 use lib.ListN.{length, take, drop}
@@ -12,28 +12,26 @@ use Rattle.machine.specs.Basics.{if_then_else_, isEmpty}
 use Rattle.machine.specs.Machine as machine
 use Rattle.machine.specs.Machine.{Machine, Process, Exit, process}
 use Rattle.machine.specs.Step.{wait}
-use Rattle.machine.specs.Table.{refusal}
 use Rattle.machine.specs.Outcome.{Answer, Outcome, answer, answered, openOutcome}
 use Rattle.machine.specs.Update.{withProcess}
 use Rattle.machine.specs.Places.{sleepOnWaitr}
-use Rattle.machine.specs.Perform.{perform, current, takeExit, newest, openPerform}
+use Rattle.machine.specs.Perform.{perform, takeExit, newest, openPerform}
 use Rattle.machine.specs.StepOf.{leftBy}
-use Rattle.layout.specs.Memory.{Memory}
 use Rattle.state.specs.Fields as fields
-use Rattle.state.specs.Abs.{table, exitAt, exitList}
-use Rattle.state.specs.Places.{sizesIn, memIn, ReachIn}
+use Rattle.state.specs.Abs.{exitAt}
+use Rattle.state.specs.Places.{memIn, ReachIn}
 use Rattle.state.specs.Tables.{table-length}
 use Rattle.layout.specs.Table.{slot}
 use Rattle.waitq.specs.Stored.{CellThere}
 use Rattle.waitq.specs.PopCode.{PopAsks, pop-some, pop-cell, pop-index}
 use Rattle.state.specs.WellFormed.{Used}
 use Rattle.state.specs.declared.Sizes.{Sizes}
-use Rattle.exact.specs.Bounds.{InBounds, at-most, inside}
+use Rattle.exact.specs.Bounds.{at-most, inside}
 use Rattle.holds.specs.Holds.{Holds}
 use Rattle.holds.specs.Whole.{holds-bounds}
 use Rattle.holds.specs.Did.{machineIn}
-use Rattle.holds.specs.Use.{kin-at}
-use Rattle.holds.specs.Touched.{Spares, settled-kin, spares-did}
+use Rattle.holds.specs.Use.{SameKin}
+use Rattle.holds.specs.Touched.{Spares, spares-did}
 use Rattle.places.specs.Nowhere.{state-used}
 use Rattle.waitq.specs.declared.WaitState.{WaitState}
 use Rattle.waitq.specs.declared.WaitState.the-variants.{InUse, NoChild, Take, Sleep}
@@ -47,7 +45,7 @@ use Rattle.outcome.specs.Means.{means, told, statusOf}
 use Rattle.outcome.specs.Stepped.{Well, Stepped, leftBytes}
 use Rattle.outcome.specs.Laws.{stepped-done, stepped-refused}
 use Rattle.outcome.specs.Refusals.{step}
-use Rattle.outcome.specs.RefusalsExit.{isWaiting as callWaits, waiting, noChild, refused-wait-3, refused-wait-4, refused-wait-14, refused-wait-15, allowed-wait}
+use Rattle.outcome.specs.RefusalsExit.{isWaiting as callWaits, refused-wait-3, refused-wait-4, refused-wait-14, refused-wait-15, allowed-wait}
 use Rattle.outcome.specs.Room.{well-room}
 use Rattle.proc_sleep.specs.Running.{nobody-up, somebody-up, link-up, current-is}
 use Rattle.proc_wait.specs.declared.Gone.{Gone}
@@ -237,6 +235,7 @@ pub record TookChild (z : Sizes) (s s′ : List ℕ) (i : ℕ) (b b′ : List �
   pub long : g .length ≡ length (newest (process (machineIn z s) i) .message)
   pub buffer : b′ ≡ newest (process (machineIn z s) i) .message ++ drop (length (newest (process (machineIn z s) i) .message)) b
   pub spares : Spares z s s′
+  pub kin : SameKin (memIn z s) (memIn z s′)
 
 exits-there : {z : Sizes} {s : List ℕ} {i : ℕ} {b : List ℕ} → PwaitAsks z s i b → isEmpty (process (machineIn z s) i .exits) ≡ false → 0 < memIn z s fields.nexits i
 exits-there {z} {s} {i} a e = go (process (machineIn z s) i .exits) refl
@@ -332,5 +331,6 @@ took-child {z} {s} {s₁} {i} {l} {p} {n} {r} {b} {b₁} a e d c t =
           c .bytes
           ∙ ap (λ (k : ℕ). messageIn z s (l - 1) ++ drop k b) (sym len)
           ∙ ap (λ (o : Exit). o .message ++ drop (length (o .message)) b) (sym x);
-      spares = spares-did (t .did) (settled-kin (kin-at (sym (t .did .memory)) (t .fewer .kin)));
+      spares = spares-did (t .did) (t .ceased);
+      kin = t .fewer .kin;
     }

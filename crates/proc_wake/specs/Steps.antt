@@ -2,22 +2,21 @@
 use mathlib.Core.Path.{_≡_, refl, sym, ap, subst, _∙_}
 use mathlib.Core.Bool.{Bool, true, false, not}
 use mathlib.Core.List.{List, [], _∷_}
-use mathlib.Core.Option.{Option, none, some}
-use Prim.Native.Nat.{ℕ, zero, suc, _-_, _≤_, _<_}
+use mathlib.Core.Option.{none, some}
+use Prim.Native.Nat.{ℕ, suc, _-_, _≤_, _<_}
 use native.Mathlib.Omega.{arith}
 use borrow.Author.Tests.{lt-ltb, le-leb}
-use lib.Dec.{eqb, ltb, leb}
+use lib.Dec.{eqb}
 use Rattle.lists.specs.Lists.{bit}
 use Rattle.machine.specs.Basics.{if_then_else_, isEmpty}
 use Rattle.machine.specs.Machine.{Machine, Lock, lock}
-use Rattle.machine.specs.Step.{Step, Body, wakeup, canqlock, qunlock, cond, due}
-use Rattle.machine.specs.Table.{refusal, inRange, heldLock, on}
-use Rattle.machine.specs.Outcome.{Reply, Answer, Outcome, answer, openOutcome}
+use Rattle.machine.specs.Step.{wakeup, canqlock, qunlock, cond, due}
+use Rattle.machine.specs.Table.{refusal, inRange, heldLock}
+use Rattle.machine.specs.Outcome.{Reply, Answer, answer, openOutcome}
 use Rattle.machine.specs.Update.{withLock, withCondition}
-use Rattle.machine.specs.Places.{wake, handOver}
+use Rattle.machine.specs.Places.{wake}
 use Rattle.machine.specs.Perform.{perform, preemptDue, openPerform}
 use Rattle.machine.specs.StepOf.{leftBy}
-use Rattle.layout.specs.Memory.{Memory}
 use Rattle.state.specs.Fields as fields
 use Rattle.state.specs.Abs.{waiterList, machineOf}
 use Rattle.state.specs.Places.{sizesIn, memIn}
@@ -39,7 +38,7 @@ use Rattle.clockwork.specs.Preempt.{PreemptDue}
 use Rattle.clockwork.specs.Conditions.{conditionStores}
 use Rattle.outcome.specs.declared.Reply as code
 use Rattle.outcome.specs.declared.Reply.the-variants.{Done, Yes, No, Refused}
-use Rattle.outcome.specs.Means.{means, told, statusOf}
+use Rattle.outcome.specs.Means.{means, told}
 use Rattle.outcome.specs.Took.{Took}
 use Rattle.outcome.specs.Stepped.{Well, Stepped, leftBytes}
 use Rattle.outcome.specs.Laws.{stepped-done, stepped-refused}
@@ -136,7 +135,7 @@ canqlock-yes {z} {s} {s₁} {q} {t} a w e =
     in
     record {
       stepped = λ k.
-          stepped-done (canqlock-allowed a k) (w .yes e .holds 0 (a .well .holds)) (touched-did (w .yes e) (same-use refl refl refl refl refl refl) .spares) (sym (f .0)) (ap told (sym (f .0)))
+          stepped-done (canqlock-allowed a k) (w .yes e .holds 0 (a .well .holds)) (touched-did (w .yes e) (same-use refl refl refl refl refl refl refl refl refl) .spares) (sym (f .0)) (ap told (sym (f .0)))
           (w .yes e .machine ∙ sym (f .1));
     }
 

@@ -1,22 +1,20 @@
 -- A lock held, handed over or freed: what `canqlock`, `qunlock` and `give_up` ask and ensure.
-use mathlib.Core.Path.{_≡_, refl, sym, ap, ap₂, subst, _∙_}
+use mathlib.Core.Path.{_≡_, refl, sym, ap, subst, _∙_}
 use mathlib.Core.Bool.{Bool, true, false, not}
 use mathlib.Core.List.{List, [], _∷_, _++_}
-use Prim.Native.Nat.{ℕ, zero, suc, _+_, _-_, _≤_, _<_}
+use Prim.Native.Nat.{ℕ, suc, _+_, _-_, _≤_, _<_}
 use native.Mathlib.Omega.{arith}
 use borrow.Author.Tests.{ne-eqb}
-use lib.Dec.{eqb}
 use Rattle.machine.specs.Machine.{Machine, Lock, lock, pidOf}
 use Rattle.machine.specs.Update.{withLock}
 use Rattle.machine.specs.Places.{ready, handOver}
 use Rattle.layout.specs.Table.{slot}
 use Rattle.layout.specs.Memory.{Memory}
-use Rattle.layout.specs.Writes.{Write, to}
+use Rattle.layout.specs.Writes.{to}
 use Rattle.state.specs.Fields as fields
 use Rattle.state.specs.Abs.{isSet, waiterList}
 use Rattle.state.specs.Places.{sizesIn, memIn, PutIn}
 use Rattle.state.specs.declared.Sizes.{Sizes}
-use Rattle.exact.specs.Bounds.{InBounds, at-most}
 use Rattle.exact.specs.Parts.{lock-of, pid-of}
 use Rattle.holds.specs.Holds.{Holds}
 use Rattle.holds.specs.Whole.{holds-bounds}
@@ -145,7 +143,7 @@ handed-none {z} {s} {s₁} {s₂} {q} {l} a d e p =
       machine = y .machine;
       readied = sym (h .1);
       range = omega arith;
-      touched = touched-did y (same-use refl refl refl refl refl refl);
+      touched = touched-did y (same-use refl refl refl refl refl refl refl refl refl);
     }
 
 pub hand-awaken : {z : Sizes} {s s₁ : List ℕ} {q l : ℕ} → HandAsks z s q → Dequeued z s s₁ q l → (l ≡ 0 → ⊥) → AwakenAsks z s₁ (l - 1)
@@ -165,7 +163,7 @@ handed-one {z} {s} {s₁} {s₂} {q} {l} a d ne w =
     in
     let t : isSet (m fields.held q) ≡ true = ap not (ne-eqb (m fields.held q) 0 (λ e. none-some (sym (o .split) ∙ a .held e))) in
     let y : Did z s s₂ same same (dequeueStores m q i ++ awakenStores (dequeueMem m q i) i) (awakenMem (dequeueMem m q i) i) (handOver q (machineIn z s) .machine) =
-    did-as (did-join (o .did) (w .did) (same-use refl refl refl refl refl refl))
+    did-as (did-join (o .did) (w .did) (same-use refl refl refl refl refl refl refl refl refl))
     (ap (λ (x : Memory). dequeueStores m q i ++ awakenStores x i) (o .did .memory))
     (ap (λ (x : Memory). awakenMem x i) (o .did .memory))
     (ap (ready i) (o .did .machine ∙ ap (λ (x : Bool). withLock q (record { held = x; waiters = o .rest }) (machineIn z s)) t) ∙ sym (h .0))
@@ -181,7 +179,7 @@ handed-one {z} {s} {s₁} {s₂} {q} {l} a d ne w =
       machine = y .machine;
       readied = ap (pidsOf m) e ∙ ap (λ (x : ℕ). x ∷ []) (sym (pid-of (holds-bounds (a .holds)) i)) ∙ sym (h .1);
       range = d .range;
-      touched = touched-did y (same-use refl refl refl refl refl refl);
+      touched = touched-did y (same-use refl refl refl refl refl refl refl refl refl);
     }
   where
     none-some : {x : ℕ} {xs : List ℕ} → x ∷ xs ≡ [] → ⊥

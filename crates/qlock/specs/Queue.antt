@@ -1,19 +1,17 @@
 -- The queue of a lock: what `enqueue` and `dequeue` ask and ensure.
 use mathlib.Core.Path.{_≡_, refl, sym, ap, ap₂, subst, _∙_}
-use mathlib.Core.Bool.{Bool, true, false}
 use mathlib.Core.List.{List, [], _∷_, _++_}
 use Prim.Native.Nat.{ℕ, zero, suc, _+_, _-_, _≤_, _<_}
 use native.Mathlib.Omega.{arith}
 use lib.ListN.{length}
 use Rattle.machine.specs.Machine.{Machine, Lock, lock}
-use Rattle.machine.specs.Good.{SizesInRange}
 use Rattle.machine.specs.Update.{withLock}
 use Rattle.layout.specs.Table.{slot}
-use Rattle.layout.specs.Memory.{Memory, alter, setField, set-twice}
+use Rattle.layout.specs.Memory.{Memory, alter, set-twice}
 use Rattle.layout.specs.Writes.{Write, to, updates}
 use Rattle.chain.specs.Links.{pushFirst, popLast, firstLink}
 use Rattle.state.specs.Fields as fields
-use Rattle.state.specs.Abs.{isSet, waiterList}
+use Rattle.state.specs.Abs.{waiterList}
 use Rattle.state.specs.Places.{sizesIn, memIn, totalIn, PutIn, Wrote, wrote-join}
 use Rattle.state.specs.declared.Sizes.{Sizes}
 use Rattle.exact.specs.Bounds.{InBounds, inside, at-most}
@@ -193,7 +191,7 @@ enqueued {z} {s} {s₁} {s₂} {s₃} {s₄} {q} {i} {r} {t} a o l d w p =
     in
     record {
       did =
-          did-as (did-join (o .did) g (same-use refl refl refl refl refl refl))
+          did-as (did-join (o .did) g (same-use refl refl refl refl refl refl refl refl refl))
           (ap (λ (k : Memory). to fields.asleepCount 0 (suc (asleepIn (memIn z s))) ∷ lastStores k q i) (c .memory))
           (ap (λ (k : Memory). enqueueMem k q i) (c .memory))
           (ap₂ (λ (x : Lock) (y : Machine). withLock q x y) locked (o .did .machine));

@@ -1,16 +1,15 @@
 -- Loading and storing a whole record.
 use mathlib.Core.Path.{_≡_, refl, sym, ap, subst₃, _∙_}
-use mathlib.Core.List.{List, [], _∷_, _++_}
-use Prim.Native.Nat.{ℕ, zero, suc, _+_, _*_, _≤_, _<_}
+use mathlib.Core.List.{List}
+use Prim.Native.Nat.{ℕ, _+_, _*_, _≤_, _<_}
 use native.Mathlib.Omega.{arith}
-use native.Mathlib.Nat.{not-suc-le-zero, le-of-suc-le-suc}
 use mathlib.Core.Bool.{Bool, true, false}
 use borrow.Author.Tests.{eqb-true, eqb-false}
 use lib.Dec.{eqb, lit<}
 use lib.ListN.{length, getD, set, length-set}
 use lib.Seq.{getD-set-same, getD-set-other, ext-getD}
 use Rattle.memory.specs.Le.{le, le-one}
-use Rattle.layout.specs.Table.{slot, start}
+use Rattle.layout.specs.Table.{slot}
 use Rattle.layout.specs.Memory.{Memory, Reach, reach-end, cell-in}
 use Rattle.state.specs.Fields as fields
 use Rattle.state.specs.Abs.{table}

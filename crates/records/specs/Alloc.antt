@@ -1,5 +1,5 @@
 -- A new process takes the free record of the highest number and the next pid: what `alloc` asks and ensures.
-use mathlib.Core.Path.{_≡_, refl, sym, ap, _∙_}
+use mathlib.Core.Path.{_≡_, refl, sym, ap, subst, _∙_}
 use mathlib.Core.List.{List, _++_}
 use mathlib.Core.Option.{none, some, Option·getD}
 use Prim.Native.Nat.{ℕ, suc, _-_, _≤_, _<_}
@@ -11,7 +11,6 @@ use Rattle.machine.specs.Places.{ready}
 use Rattle.machine.specs.Perform.{made}
 use Rattle.layout.specs.Memory.{Memory}
 use Rattle.layout.specs.Writes.{Write}
-use Rattle.chain.specs.Links.{alter-other}
 use Rattle.state.specs.Fields as fields
 use Rattle.state.specs.Abs.{linkTo, machineOf}
 use Rattle.state.specs.Places.{sizesIn, memIn}
@@ -19,7 +18,8 @@ use Rattle.state.specs.declared.Sizes.{Sizes}
 use Rattle.record.specs.declared.Proc.{Proc}
 use Rattle.holds.specs.Holds.{Holds}
 use Rattle.holds.specs.Use.{same-use}
-use Rattle.holds.specs.Touched.{Settled}
+use Rattle.holds.specs.Leftover.{Ceased, ceased-join, quiet-calm, Alive, alive-kin, alive-join}
+use Rattle.holds.specs.Touched.{Touched, touched-did}
 use Rattle.holds.specs.Did.{Did, did-join, did-as, machineIn, same}
 use Rattle.places.specs.Nowhere.{Nowhere}
 use Rattle.free.specs.Asks.{RecordsIn, records-in}
@@ -28,6 +28,7 @@ use Rattle.records.specs.Names.{IsName}
 use Rattle.records.specs.New.{newProcess, Newcomer, newcomer-same}
 use Rattle.records.specs.Occupy.{occupyStores, occupyMem}
 use Rattle.records.specs.OccupyCode.{OccupyAsks, Occupied}
+use Rattle.records.specs.InUse.{occupy-alive, occupy-ceased}
 use Rattle.records.specs.Pid.{pidStores, pidMem, NextPidAsks, PidTaken}
 
 -- The machine with a new process, that takes the next pid, in record i.
@@ -61,8 +62,8 @@ pub record AllocOne (z : Sizes) (s s′ : List ℕ) (p : Proc) (i : ℕ) : Type 
   pub did
       : Did z s s′ same same (allocStores (z .processes) (memIn z s) i p) (allocMem (z .processes) (memIn z s) i p) (born i p (machineIn z s))
   pub nowhere : Nowhere (sizesIn z) (memIn z s′) i
-  -- the links of the others to their parents stay
-  pub settled : Settled (memIn z s) (allocMem (z .processes) (memIn z s) i p)
+  pub ceased : Ceased z (memIn z s) (memIn z s′)
+  pub alive : Alive (memIn z s) (memIn z s′)
 
 -- The link r names it; it is 0 where no record is free, and then nothing is stored.
 pub record Allocated (z : Sizes) (s s′ : List ℕ) (p : Proc) (r : ℕ) : Type 0 where
@@ -118,23 +119,27 @@ module _ {z : Sizes} {s : List ℕ} {p : Proc} (a : AllocAsks z s p) where
           let i : ℕ = r - 1 in
           let n : ℕ = z .processes in
           let q : r ≡ suc i = omega arith in
+          let above : 0 < v = omega (arith, newcomer .above i) in
+          let first : Touched z s s₁ = touched-did (t .did) (same-use refl refl refl refl refl refl refl refl refl) in
           record {
             none = λ e. absurd (ne e);
             one = λ x.
                 record {
                   found = sym (f .machine) ∙ ap linkTo q;
                   did =
-                      did-as (did-join (t .did) (d .did) (same-use refl refl refl refl refl refl))
+                      did-as (did-join (t .did) (d .did) (same-use refl refl refl refl refl refl refl refl refl))
                       (λ k. pidStores (memIn z s) ++ occupyStores n (t .did .memory k) i p (t .pid k))
                       (λ k. occupyMem n (t .did .memory k) i p (t .pid k))
                       (λ k. withProcess i (newProcess (t .pid k) p) (t .did .machine k));
                   nowhere = d .nowhere;
-                  settled =
-                      record {
-                        stays = λ j u.
-                            alter-other (memIn z s fields.parentAt) i (p .«parent_at») j
-                            (λ e. omega (arith, u, here .1, ap (memIn z s fields.pid) e));
-                      };
+                  ceased =
+                      subst (Ceased z (memIn z s)) (sym (d .did .memory))
+                      (ceased-join (first .spares .ceased) (d .did .spared)
+                      (occupy-ceased n (memIn z s₁) i p v (ap (λ (x : Memory). x fields.pid i) (t .did .memory) ∙ here .1) above)
+                      (quiet-calm (first .same .calm) (occupy-alive n (memIn z s₁) i p v above)));
+                  alive =
+                      subst (Alive (memIn z s)) (sym (d .did .memory))
+                      (alive-join (alive-kin (first .same .kin)) (occupy-alive n (memIn z s₁) i p v above));
                 };
             range = f .range;
           }

@@ -33,6 +33,14 @@ pub empty-owns : {z : Sizes} {m : Memory} {i : ℕ} → Cells z m → Used m i �
 empty-owns {m = m} {i = i} k u d c e =
     absurd (omega (arith, k .owner c i e .1, count-empty c (exitList m i) (k .counted i u ∙ d)))
 
+-- The link of a record without exits.
+pub exits-none : {z : Sizes} {m : Memory} {i : ℕ} → Cells z m → Used m i → m fields.nexits i ≡ 0 → m fields.exits i ≡ 0
+exits-none {z} {m} {i} k u d = go (exitList m i) (k .counted i u ∙ d) (k .chain i u)
+  where
+    go : (xs : List ℕ) → length xs ≡ 0 → Chain (z .cells) (m fields.cellNext) (m fields.exits i) xs → m fields.exits i ≡ 0
+    go [] e c = c .links
+    go (x ∷ xs) e c = absurd (omega (arith, e))
+
 -- A record without exits has an empty list of them.
 pub no-exits : (m : Memory) (i : ℕ) → m fields.exits i ≡ 0 → exitList m i ≡ []
 unfolding exitList

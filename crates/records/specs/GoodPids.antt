@@ -12,7 +12,7 @@ use Rattle.record.specs.declared.Proc.{Proc}
 use Rattle.exact.specs.Bounds.{InBounds}
 use Rattle.exact.specs.Parts.{pid-of, used-of}
 use Rattle.ages.specs.Kept.{pids-apart}
-use Rattle.records.specs.New.{HasKin, orphan, child, Newcomer}
+use Rattle.records.specs.New.{orphan, child, Newcomer}
 
 module _ {z : Sizes} {m : Memory} (b : InBounds z m) (g : Good (machineOf z m)) where
   -- All pids are below the next one, and so are those of all parents.

@@ -153,7 +153,7 @@ module _ {z : Sizes} {s : List ℕ} {i : ℕ} {p : Proc} {v : ℕ} (a : OccupyAs
             let b : InBounds (sizesIn z) m = holds-bounds (a .holds) in
             record {
               did =
-                  did-stored (stored .state) (wrote-runs first next last .bytes) ok e
+                  did-stored (a .holds) (stored .state) (wrote-runs first next last .bytes) ok e
                   (λ n q. occupy-keeps b (a .index) (a .free) (a .text .length) (a .new) q words)
                   (occupy-machine b (a .index) (a .free) (a .text .length) (a .new))
                   (occupy-in-use (z .processes) i p v (a .holds .keeps .ages) (a .free) (a .new) (a .text .length));

@@ -21,6 +21,7 @@ use Rattle.holds.specs.Holds.{Holds}
 use Rattle.holds.specs.Whole.{holds-bounds}
 use Rattle.holds.specs.Frames.{index-same}
 use Rattle.holds.specs.Use.{Smaller}
+use Rattle.holds.specs.Leftover.{Ceased}
 use Rattle.holds.specs.Did.{Did, machineIn, same, writesIn, WritableIn, writable-join, wrote-2}
 use Rattle.places.specs.Nowhere.{Nowhere}
 use Rattle.free.specs.Asks.{records-in}
@@ -32,7 +33,8 @@ use Rattle.ages.specs.Out.{ageOutStores, ageOutMem, AgedOut}
 use Rattle.records.specs.Else.{partOf}
 use Rattle.records.specs.Store.{did-stored}
 use Rattle.records.specs.Release.{goneStores, releaseStores, goneMem, releaseMem, release-else, release-machine, release-found, release-keeps}
-use Rattle.records.specs.InUse.{release-in-use, release-smaller}
+use Rattle.records.specs.Exits.{exits-none}
+use Rattle.records.specs.InUse.{release-in-use, release-smaller, release-ceased}
 
 -- The process is nowhere, and has no exits left.
 pub record ReleaseAsks (z : Sizes) (s : List ℕ) (i : ℕ) : Type 0 where
@@ -47,6 +49,7 @@ pub record Released (z : Sizes) (s s′ : List ℕ) (i : ℕ) : Type 0 where
       : Did z s s′ same same (releaseStores (z .processes) (memIn z s) i) (releaseMem (z .processes) (memIn z s) i)
       (withProcess i free (machineIn z s))
   pub smaller : Smaller z (memIn z s) (memIn z s′)
+  pub ceased : Ceased z (memIn z s) (memIn z s′)
   -- whoever is found by another pid still is
   pub found : (q : ℕ) → (memIn z s fields.pid i ≡ q → ⊥) → found q (machineIn z s′) ≡ found q (machineIn z s)
 
@@ -114,11 +117,14 @@ module _ {z : Sizes} {s : List ℕ} {i : ℕ} (a : ReleaseAsks z s i) where
         let e : memIn z s₄ ≡ releaseMem n m i = last .memory ∙ ap (λ (x : Memory). goneMem x i) dropped in
         record {
           did =
-              did-stored (last .state) (wrote-runs first next then .bytes) ok e
+              did-stored (a .holds) (last .state) (wrote-runs first next then .bytes) ok e
               (λ o q. release-keeps b (a .nowhere) (a .exits) q words)
               (release-machine b (a .nowhere))
               (release-in-use n i (a .holds .keeps .ages) (a .nowhere .used));
           smaller = subst (Smaller z m) (sym e) (release-smaller n m i);
+          ceased =
+              subst (Ceased z m) (sym e)
+              (release-ceased n m i (a .holds .keeps .ages) (a .nowhere) (exits-none (a .holds .keeps .cells) (a .nowhere .used) (a .exits)) (a .exits));
           found = λ q ne.
               ap (λ (x : Memory). found q (machineOf (sizesIn z) x)) e ∙ release-found b (a .nowhere) (a .holds .keeps .ages) q ne;
         }

@@ -18,9 +18,9 @@ use Rattle.state.specs.declared.Sizes.{Sizes}
 use Rattle.record.specs.declared.Proc.{Proc}
 use Rattle.record.specs.Resumes.{numberOf, objectOf, conditionOf}
 use Rattle.record.specs.Stores.{idStores, tieStores, countStores, nameStores, numberStores, resumeStores, recordStores}
-use Rattle.holds.specs.Holds.{Keeps}
+use Rattle.holds.specs.Holds.{Keeps, Holds}
 use Rattle.holds.specs.Use.{EachInUse}
-use Rattle.holds.specs.Did.{Did, same, writesIn, WritableIn, writable-join}
+use Rattle.holds.specs.Did.{Did, same, writesIn, WritableIn, spared-stores, writable-join}
 use Rattle.free.specs.Asks.{StateIn}
 use Rattle.records.specs.Names.{IsName, namesWith, spelled-stores, spelled-writable}
 use Rattle.records.specs.Else.{partOf, Else, else-put, else-name}
@@ -128,7 +128,8 @@ stored-else p e w =
 
 -- Bytes that are in range, and whose memory keeps all.
 pub did-stored
-    : {z : Sizes} {s s′ : List ℕ} {ws : List Write} {k : Memory} {a : Machine}
+    : {z : Sizes} {s s′ : List ℕ} {n : ℕ} {ws : List Write} {k : Memory} {a : Machine}
+    → Holds z s n
     → StateIn z s′
     → s′ ≡ writesIn z s ws
     → WritableIn z ws
@@ -137,12 +138,12 @@ pub did-stored
     → machineOf (sizesIn z) k ≡ a
     → EachInUse z (memIn z s) k ws
     → Did z s s′ same same ws k a
-did-stored {z} t b ok e keeps m u =
+did-stored {z} h t b ok e keeps m u =
     record {
       holds = λ n g. record { sizes = g .sizes; state = t; keeps = subst (λ (y : Memory). Keeps (sizesIn z) y n) (sym e) (keeps n (g .keeps)) };
       bytes = b;
       writable = ok;
       memory = e;
       machine = ap (machineOf (sizesIn z)) e ∙ m;
-      inUse = u;
+      spared = spared-stores h b ok e u;
     }

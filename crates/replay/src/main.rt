@@ -274,9 +274,11 @@ fn main() {
     while i < count {
         if count - i < 3 {
             say_rest(i);
+            tell(agreed);
             return;
         }
         if !replay_list(i) {
+            tell(agreed);
             return;
         }
         agreed += 1;

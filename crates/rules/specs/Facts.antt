@@ -1,7 +1,7 @@
 -- The facts that `check` tests, each by one loop or one walk. Together they say that a state in range is well formed.
 use mathlib.Core.Path.{_≡_}
 use mathlib.Core.Bool.{Bool, _&&_}
-use mathlib.Core.List.{List, [], reverse}
+use mathlib.Core.List.{reverse}
 use mathlib.Core.Logic.{_⊎_}
 use Prim.Native.Nat.{ℕ, zero, suc, _+_, _-_, _^_, _≤_, _<_}
 use lib.Dec.{eqb}
@@ -15,7 +15,7 @@ use Rattle.chain.specs.Links.{Links, Chain, Queue}
 use Rattle.chain.specs.Ordered.{Sorted}
 use Rattle.state.specs.Fields as fields
 use Rattle.state.specs.Abs.{isSet, runList, waiterList, timerList, exitList}
-use Rattle.state.specs.WellFormed.{Used, Blank, NoLink, ageList, Rising, Index}
+use Rattle.state.specs.WellFormed.{Used, Blank, NoLink, ageList, Rising, Index, Vacant}
 
 -- How many numbers below n pass a test, and the sum of f over the numbers below n.
 unfoldable pub countBelow : ℕ → (ℕ → Bool) → ℕ
@@ -139,6 +139,12 @@ isQueueing m i = eqb (m fields.stateOf i) 3 && eqb (m fields.resumeKind i) 3
 abbrev pub isChildOf : Memory → ℕ → ℕ → Bool
 isChildOf m pid i = isSet (m fields.pid i) && eqb (m fields.parent i) pid
 
+-- What is free has nothing.
+pub record IdleOk (z : Sizes) (m : Memory) : Type 0 where
+  pub records : (i : ℕ) → i < z .processes → m fields.pid i ≡ 0 → Vacant m i
+  pub cells : (c : ℕ) → c < z .cells → m fields.owner c ≡ 0 → m fields.cellNext c ≡ 0
+  pub timers : (t : ℕ) → t < z .timers + z .processes → m fields.isQueued t ≡ 0 → m fields.timerNext t ≡ 0
+
 -- All of them. What is counted shows that a walk met everyone it should: as many as there are.
 pub record Facts (z : Sizes) (m : Memory) : Type 0 where
   pub header : HeaderOk m
@@ -160,3 +166,4 @@ pub record Facts (z : Sizes) (m : Memory) : Type 0 where
   pub kin : (i : ℕ) → i < z .processes → Used m i → KinOk z m i
   pub nchild : (j : ℕ) → j < z .processes → Used m j → m fields.nchild j ≡ countBelow (z .processes) (isChildOf m (m fields.pid j))
   pub index : Index z m
+  pub idle : IdleOk z m

@@ -1,12 +1,12 @@
 -- Walking a queue by its links: one theory for every link field. g is the link function, h the head, P what each number met must meet.
 use mathlib.Core.Path.{_≡_, refl, sym, subst, _∙_}
 use mathlib.Core.List.{List, [], _∷_, _++_}
-use Prim.Native.Nat.{ℕ, zero, suc, _+_, _-_, _≤_, _<_}
+use Prim.Native.Nat.{ℕ, suc, _+_, _-_, _≤_}
 use native.Mathlib.Omega.{arith}
 use lib.ListN.{length, length-append}
 use Rattle.machine.specs.Good.{Each}
 use Rattle.chain.specs.Lists.{distinct-fits}
-use Rattle.chain.specs.Links.{Links, Chain, Queue, chain-walk, walk, final, final-end}
+use Rattle.chain.specs.Links.{Links, Chain, chain-walk, walk, final, final-end}
 use Rattle.chain.specs.Prefix.{Prefix, prefix-links, prefix-more, prefix-end, links-distinct, links-below}
 
 -- The walk so far: k numbers were met, each of them meets P, the last of them is linked by `last` (0 for none), the next link is `link`.

@@ -5,3 +5,4 @@ pub mod Record
 pub mod One
 pub mod Loop
 pub mod Course
+pub mod Same

@@ -14,24 +14,23 @@ use Rattle.state.specs.WellFormed.{WellFormed}
 use Rattle.state.specs.declared.Sizes.{Sizes}
 use Rattle.outcome.specs.declared.Reply.{Reply}
 use Rattle.outcome.specs.declared.Reply.the-variants.{Refused}
-use Rattle.outcome.specs.Stepped.{Well}
 use Rattle.proc.specs.Taken.{Taken}
 use Rattle.step.specs.declared.Words.{Words}
 use Rattle.step.specs.Words.{Lent, lent, theWords, WordsAre}
-use Rattle.step.specs.After.{formed-of, well-after}
+use Rattle.step.specs.After.{WellIn, formed-of, well-after}
 use Rattle.step.specs.Exported.{Exported, Replied, replies, refuses, replies-of, exported-answer, exported-refused}
 use Rattle.run.specs.Ran.{wordsAt, OneRan}
 use Rattle.run.specs.Record.{Written}
 
 -- A state and a record for one step.
 pub record OneAsks (z : Sizes) (s r : List ℕ) : Type 0 where
-  pub well : Well z s
+  pub well : WellIn z s
   pub room : 32 ≤ length r
 
 -- The step is taken and its answer stands in the record; the state is well formed again.
 pub record OneDone (z : Sizes) (s s′ b r r′ : List ℕ) : Type 0 where
   pub ran : OneRan s s′ b r r′
-  pub well : Well z s′
+  pub well : WellIn z s′
 
 -- Numbers in the first 32 bytes, with other bytes behind those.
 le-front : (r x : List ℕ) (i : ℕ) → 32 ≤ length r → i + 8 ≤ 32 → le 8 (take 32 r ++ x) i ≡ le 8 r i

@@ -4,7 +4,7 @@ use step::Words;
 ghost use mathlib.Core.Path.{_≡_};
 ghost use Prim.Native.Nat.{_≤_};
 ghost use lib.ListN.{length};
-ghost use Rattle.outcome.specs.Stepped.{Well};
+ghost use Rattle.step.specs.After.{WellIn};
 ghost use Rattle.step.specs.Words.{theWords};
 ghost use Rattle.run.specs.Ran.{stepsIn, Ran};
 ghost use Rattle.run.specs.Steps.{endOf};
@@ -71,7 +71,7 @@ fn refuse_one(r: &mut [u8])
 
 // Takes the steps in `steps`, where `s` is well formed.
 fn run_formed(s: &mut [u8], z: Sizes, steps: &[u8], answers: &mut [u8]) -> u64
-    requires { ⌜ Well z (now s) ⌝ }
+    requires { ⌜ WellIn z (now s) ⌝ }
     ensures { λ n. ⌜ Ran (stepsIn (now (steps .entry))) (now (s .entry)) (now (s .exit)) (now (answers .entry)) (now (answers .exit)) n ⌝ }
 {
     let mut at: usize = 0;

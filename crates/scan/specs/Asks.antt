@@ -1,16 +1,14 @@
 -- What the functions ask, and laws of decisions.
-use mathlib.Core.Path.{_≡_, refl, sym}
-use mathlib.Core.Bool.{Bool, true, false, not, false≢true}
+use mathlib.Core.Path.{_≡_, refl}
 use mathlib.Core.List.{List}
 use mathlib.Core.Logic.{_⊎_, inl, inr}
-use Prim.Native.Nat.{ℕ, zero, suc, _+_, _≤_, _<_}
+use Prim.Native.Nat.{ℕ, zero, suc, _≤_, _<_}
 use native.Mathlib.Omega.{arith}
-use borrow.Author.Count.{below-more}
 use Rattle.layout.specs.Memory.{Ranged}
 use Rattle.state.specs.Fields as fields
 use Rattle.state.specs.Places.{sizesIn}
 use Rattle.state.specs.declared.Sizes.{Sizes}
-use Rattle.rules.specs.Code.{memIn, Whole, Decides}
+use Rattle.rules.specs.Code.{memIn, Whole}
 
 -- Record i of a whole state.
 pub record At (z : Sizes) (s : List ℕ) (i : ℕ) : Type 0 where

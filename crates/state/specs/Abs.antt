@@ -1,12 +1,12 @@
 -- The machine that the bytes of a state hold.
-use mathlib.Core.Bool.{Bool, true, false, not, _&&_}
+use mathlib.Core.Bool.{Bool, not, _&&_}
 use mathlib.Core.List.{List, [], _∷_, map}
 use mathlib.Core.Option.{Option, none, some}
 use Prim.Native.Nat.{ℕ, zero, suc, _+_, _*_}
 use lib.Dec.{eqb}
 use Rattle.memory.specs.Le.{le}
 use Rattle.machine.specs.Basics.{if_then_else_}
-use Rattle.machine.specs.Machine.{Sizes, Resume, nothing, inSleep, inTsleep, inQlock, inWait, Exit, Process, Lock, Setting, Queued, Machine, free}
+use Rattle.machine.specs.Machine.{Sizes, Resume, nothing, inSleep, inTsleep, inQlock, inWait, Exit, Process, Machine, free}
 use Rattle.layout.specs.Memory.{Memory, mem}
 use Rattle.chain.specs.Links.{walk}
 use Rattle.state.specs.Fields as fields

@@ -1,6 +1,6 @@
 -- The table of fields of layout 1. A field is named by its number; docs/STATE.md shows the same table.
 use mathlib.Core.List.{List, [], _∷_}
-use Prim.Native.Nat.{ℕ, _+_, _-_, _*_, _^_}
+use Prim.Native.Nat.{ℕ, _+_, _-_, _*_}
 use lib.ListN.{getD}
 use Rattle.machine.specs.Machine.{Sizes}
 use Rattle.layout.specs.Table.{Layout, Slot, slot}

@@ -2,7 +2,7 @@
 use mathlib.Core.Path.{_≡_, refl}
 use mathlib.Core.Bool.{Bool}
 use mathlib.Core.List.{List, [], _∷_}
-use Prim.Native.Nat.{ℕ, zero, suc, _+_, _^_, _≤_, _<_}
+use Prim.Native.Nat.{ℕ, zero, suc, _^_, _≤_, _<_}
 use native.Mathlib.Omega.{arith}
 use native.Mathlib.Nat.{le-of-suc-le-suc, not-suc-le-zero}
 use lib.Dec.{T, ltb, ltb→lt}
@@ -11,7 +11,7 @@ use Rattle.machine.specs.Basics.{all}
 use Rattle.machine.specs.Machine.{Sizes}
 use Rattle.machine.specs.Good.{SizesInRange}
 use Rattle.layout.specs.Tests.{all-at}
-use Rattle.layout.specs.Table.{Slot, slot, field, inside, split, pairwise, sound}
+use Rattle.layout.specs.Table.{Slot, slot, inside, split, pairwise, sound}
 use Rattle.layout.specs.Writes.{Ranges}
 use Rattle.state.specs.Fields.{Kind, aByte, aHalf, aWord4, aWord, aBit, toProcess, toTimer, toCell, aRendez, exitCount, aState, aResume, aLength, aPeriod, Row, row, rows, slots, layout1, most, mostOf}
 

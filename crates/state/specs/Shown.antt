@@ -1,9 +1,8 @@
 -- What the code's arithmetic rests on: strides are small, and so is what a record's number makes of them.
-use mathlib.Core.Bool.{Bool}
 use Prim.Native.Nat.{ℕ, _*_, _≤_, _<_}
 use native.Mathlib.Nat.{mul-le-mul, le-pred-of-lt}
 use native.Mathlib.Omega.{arith}
-use lib.Dec.{T, leb, leb→le}
+use lib.Dec.{leb, leb→le}
 use lib.ListN.{getD}
 use Rattle.machine.specs.Basics.{all}
 use Rattle.layout.specs.Tests.{all-at}

@@ -1,12 +1,12 @@
 -- When the bytes are a state: what the layout asks of its links, tags and counts, and the rules of the machine that they hold.
 use mathlib.Core.Path.{_≡_}
-use mathlib.Core.Bool.{Bool, false, not, _&&_, _||_}
+use mathlib.Core.Bool.{Bool, false, _&&_, _||_}
 use mathlib.Core.List.{List, [], _∷_, reverse}
 use Prim.Native.Nat.{ℕ, zero, suc, _+_, _-_, _*_, _^_, _≤_, _<_}
 use lib.Dec.{eqb, ltb}
 use lib.ListN.{length}
 use Rattle.machine.specs.Basics.{if_then_else_, count}
-use Rattle.machine.specs.Machine.{Sizes, Machine, asleep}
+use Rattle.machine.specs.Machine.{Sizes, asleep}
 use Rattle.machine.specs.Good.{SizesInRange, Each, Good}
 use Rattle.layout.specs.Memory.{Memory}
 use Rattle.layout.specs.Writes.{State}
@@ -112,6 +112,18 @@ pub record Index (z : Sizes) (m : Memory) : Type 0 where
   pub fullCellWords : (v : ℕ) → v < 16 → m fields.fullCellWords v ≡ bits (λ b. isFull (m fields.usedCells (64 * v + b))) 64
   pub fullCells : m fields.fullCells 0 ≡ bits (λ v. isFull (m fields.fullCellWords v)) 16
 
+-- What is free has nothing: a free record no neighbours in age and no exits, a free cell and a timer that is off the queue no link.
+pub record Vacant (m : Memory) (i : ℕ) : Type 0 where
+  pub older : m fields.older i ≡ 0
+  pub younger : m fields.younger i ≡ 0
+  pub exits : m fields.exits i ≡ 0
+  pub nexits : m fields.nexits i ≡ 0
+
+pub record Idle (m : Memory) : Type 0 where
+  pub records : (i : ℕ) → m fields.pid i ≡ 0 → Vacant m i
+  pub cells : (c : ℕ) → m fields.owner c ≡ 0 → m fields.cellNext c ≡ 0
+  pub timers : (t : ℕ) → m fields.isQueued t ≡ 0 → m fields.timerNext t ≡ 0
+
 -- The bytes represent their machine.
 pub record Rep (s : List ℕ) : Type 0 where
   pub sizes : SizesInRange (sizesOf s)
@@ -123,6 +135,7 @@ pub record Rep (s : List ℕ) : Type 0 where
   pub cells : Cells (sizesOf s) (memoryOf s)
   pub ages : Ages (sizesOf s) (memoryOf s)
   pub index : Index (sizesOf s) (memoryOf s)
+  pub idle : Idle (memoryOf s)
 
 -- A state is well formed: its bytes represent their machine, and that keeps 01's rules.
 pub record WellFormed (s : List ℕ) : Type 0 where

@@ -1,33 +1,35 @@
 -- What a step leaves of the bytes of a well-formed state.
 use mathlib.Core.Path.{_≡_, refl, sym, ap, subst, subst₂, _∙_}
-use mathlib.Core.Bool.{Bool, _&&_}
-use mathlib.Core.List.{List, [], _∷_, _++_}
+use mathlib.Core.Bool.{Bool, true, false, _&&_}
+use mathlib.Core.List.{List, [], _∷_}
 use mathlib.Core.Option.{Option, none, some}
-use Prim.Native.Nat.{ℕ, suc, _≤_, _<_}
+use Prim.Native.Nat.{ℕ, suc}
+use native.Mathlib.Omega.{arith}
 use lib.Dec.{eqb}
 use lib.ListN.{length, drop}
 use Rattle.machine.specs.Basics.{if_then_else_}
 use Rattle.machine.specs.Machine as machine
 use Rattle.machine.specs.Machine.{Machine}
 use Rattle.machine.specs.Good.{Good}
-use Rattle.machine.specs.Step.{Step, Body}
+use Rattle.machine.specs.Step.{Step}
 use Rattle.machine.specs.Table.{on}
 use Rattle.machine.specs.Outcome.{Outcome, refused}
 use Rattle.machine.specs.StepOf.{outcomeOf}
-use Rattle.layout.specs.Memory.{Memory, mem, cell}
+use Rattle.layout.specs.Memory.{mem, cell}
 use Rattle.layout.specs.Table.{total}
 use Rattle.layout.specs.Writes.{Write, to, writes, Writable}
 use Rattle.state.specs.Fields as fields
 use Rattle.state.specs.Abs.{sizesOf, memoryOf, machineOf, abs}
-use Rattle.state.specs.Places.{sizesIn, memIn, totalIn}
-use Rattle.state.specs.WellFormed.{WellFormed}
+use Rattle.state.specs.Places.{sizesIn, memIn}
+use Rattle.state.specs.WellFormed.{Idle, WellFormed}
 use Rattle.state.specs.declared.Sizes.{Sizes}
 use Rattle.kept.specs.Kept.{good-outcome}
 use Rattle.holds.specs.Holds.{Holds}
-use Rattle.holds.specs.Whole.{well-holds, holds-sizes, holds-machine, holds-rep}
+use Rattle.holds.specs.Whole.{well-holds, holds-sizes, holds-machine, holds-rep, well-idle}
 use Rattle.holds.specs.Did.{machineIn}
 use Rattle.holds.specs.Use.{usedIn}
-use Rattle.holds.specs.Touched.{spares-length, spares-behind, spares-unused}
+use Rattle.holds.specs.Leftover.{cleared}
+use Rattle.holds.specs.Touched.{Spares, spares-length, spares-behind, spares-unused, spares-idle}
 use Rattle.outcome.specs.declared.Reply.{Reply}
 use Rattle.outcome.specs.Stepped.{Well, leftBytes}
 use Rattle.proc.specs.Taken.{Taken, leftIn, given}
@@ -40,12 +42,13 @@ totalOf s = total fields.layout1 (fields.counts (sizesOf s))
 abbrev pub writesTo : List ℕ → List Write → List ℕ
 writesTo s ws = writes fields.layout1 (fields.counts (sizesOf s)) s ws
 
--- Whether the machine of the bytes s may use field f of number i: 0 where it does not.
-abbrev usedAt : machine.Sizes → List ℕ → ℕ → ℕ → ℕ
-usedAt v s = usedIn v (mem fields.layout1 (fields.counts v) s)
+-- Whether the machine of the bytes s determines field f of number i: 0 where it does not. It does where it uses it, and everywhere a field that is
+-- 0 where it is not used.
+abbrev determinedAt : machine.Sizes → List ℕ → ℕ → ℕ → ℕ
+determinedAt v s f i = if cleared f then 1 else usedIn v (mem fields.layout1 (fields.counts v) s) f i
 
-abbrev pub usedOf : List ℕ → ℕ → ℕ → ℕ
-usedOf s = usedAt (sizesOf s) s
+abbrev pub determinedOf : List ℕ → ℕ → ℕ → ℕ
+determinedOf s = determinedAt (sizesOf s) s
 
 -- A refused step leaves every byte, but for 11 on an rfork with M = 3, where the next pid rises by one.
 unfoldable pub leftOf : List ℕ → ℕ → Option Step → List ℕ
@@ -54,27 +57,34 @@ leftOf s n (some x) =
     if eqb n 11 && on 2 "rfork" (λ F M. eqb M 3) (x .body) then writesTo s (to fields.nextPid 0 (suc (abs s .nextPid)) ∷ []) else s
 
 -- The bytes s, well formed, became s′ with the outcome o of what was handed in: they are well formed again and hold its machine; only
--- fields of the state are written; what the machine uses neither before nor after stays, and the link of who lived before to its parent, and what
--- is behind the state; a refusal leaves all.
+-- fields of the state are written; what that machine does not determine stays, and what is behind the state; a refusal leaves all. There is one such
+-- s′ (`One.antt`).
 pub record After (s s′ : List ℕ) (x : Option Step) (o : Outcome) : Type 0 where
   pub wellFormed : WellFormed s′
   pub machine : abs s′ ≡ o .after
+  pub sizes : sizesOf s′ ≡ sizesOf s
   pub stores : List Write
   pub writable : Writable fields.layout1 (fields.mostOf (sizesOf s)) (fields.counts (sizesOf s)) stores
   pub bytes : s′ ≡ writesTo s stores
-  pub spared : (f i : ℕ) → usedOf s f i ≡ 0 → usedOf s′ f i ≡ 0 → memoryOf s′ f i ≡ memoryOf s f i
-  pub settled : (i : ℕ) → 0 < memoryOf s fields.pid i → memoryOf s′ fields.parentAt i ≡ memoryOf s fields.parentAt i
+  pub stays : (f i : ℕ) → determinedOf s′ f i ≡ 0 → memoryOf s′ f i ≡ memoryOf s f i
   pub long : length s′ ≡ length s
   pub behind : drop (totalOf s) s′ ≡ drop (totalOf s) s
   pub left : (n : ℕ) → o .reply ≡ refused n → s′ ≡ leftOf s n x
 
--- A well-formed state, at the sizes that the code has read.
-pub well-of : {z : Sizes} {s : List ℕ} → WellFormed s → sizesIn z ≡ sizesOf s → Well z s
-well-of {z} {s} w e = let h : Holds z s 0 = well-holds e w in record { holds = h; good = subst Good (holds-machine h) (w .good) }
+-- A well-formed state, at the sizes that the code has read: what the steps ask of it, and that what is free has nothing.
+pub record WellIn (z : Sizes) (s : List ℕ) : Type 0 where
+  pub well : Well z s
+  pub idle : Idle (memIn z s)
+
+pub well-of : {z : Sizes} {s : List ℕ} → WellFormed s → sizesIn z ≡ sizesOf s → WellIn z s
+well-of {z} {s} w e =
+    let h : Holds z s 0 = well-holds e w in
+    record { well = record { holds = h; good = subst Good (holds-machine h) (w .good) }; idle = well-idle e w }
 
 -- And back.
-pub formed-of : {z : Sizes} {s : List ℕ} → Well z s → WellFormed s
-formed-of w = record { rep = holds-rep (w .holds); good = subst Good (sym (holds-machine (w .holds))) (w .good) }
+pub formed-of : {z : Sizes} {s : List ℕ} → WellIn z s → WellFormed s
+formed-of w =
+    record { rep = holds-rep (w .well .holds) (w .idle); good = subst Good (sym (holds-machine (w .well .holds))) (w .well .good) }
 
 -- The same outcome, on the machine of the bytes.
 pub outcome-of : {z : Sizes} {s : List ℕ} (x : Option Step) (n : ℕ) → Well z s → outcomeOf (abs s) x n ≡ outcomeOf (machineIn z s) x n
@@ -89,47 +99,50 @@ left-of z s n (some x) w =
     else s)
     (sym (holds-sizes (w .holds)))
 
--- What is used neither before nor after stays, at sizes that are not yet known to be the headers'.
-abbrev Spared : machine.Sizes → machine.Sizes → List ℕ → List ℕ → Type 0
-Spared v v′ s s′ =
-    (f i : ℕ) → usedAt v s f i ≡ 0 → usedAt v′ s′ f i ≡ 0 → mem fields.layout1 (fields.counts v′) s′ f i ≡ mem fields.layout1 (fields.counts v) s f i
+-- What is not determined after stays, at sizes that are not yet known to be the headers'.
+abbrev Stays : machine.Sizes → machine.Sizes → List ℕ → List ℕ → Type 0
+Stays v v′ s s′ =
+    (f i : ℕ) → determinedAt v′ s′ f i ≡ 0 → mem fields.layout1 (fields.counts v′) s′ f i ≡ mem fields.layout1 (fields.counts v) s f i
 
-abbrev SettledAt : machine.Sizes → machine.Sizes → List ℕ → List ℕ → Type 0
-SettledAt v v′ s s′ =
-    (i : ℕ)
-    → 0 < mem fields.layout1 (fields.counts v) s fields.pid i
-    → mem fields.layout1 (fields.counts v′) s′ fields.parentAt i ≡ mem fields.layout1 (fields.counts v) s fields.parentAt i
+stays-in : {z : Sizes} {s s′ : List ℕ} → Spares z s s′ → Stays (sizesIn z) (sizesIn z) s s′
+stays-in {z} {s} {s′} t f i = go (cleared f) refl
+  where
+    go : (b : Bool) → cleared f ≡ b → (if b then 1 else usedIn (sizesIn z) (memIn z s′) f i) ≡ 0 → memIn z s′ f i ≡ memIn z s f i
+    go true e d = absurd (omega (arith, d))
+    go false e d = spares-unused t f i e d
 
 -- What a step on a well-formed state leaves.
 pub well-after
-    : {z : Sizes} {s s′ m m′ : List ℕ} {x : Option Step} {r : Reply} → Well z s → Taken z s s′ x m m′ r → Well z s′
+    : {z : Sizes} {s s′ m m′ : List ℕ} {x : Option Step} {r : Reply} → WellIn z s → Taken z s s′ x m m′ r → WellIn z s′
 well-after {z} {s} {s′} {m} {x = x} w t =
-    record { holds = t .holds; good = subst Good (sym (t .machine)) (good-outcome (machineIn z s) x (length m) (w .good)) }
+    record {
+      well = record { holds = t .holds; good = subst Good (sym (t .machine)) (good-outcome (machineIn z s) x (length m) (w .well .good)) };
+      idle = spares-idle (t .spares) (w .idle);
+    }
 
 pub after-of
     : {z : Sizes} {s s′ m m′ : List ℕ} {x : Option Step} {r : Reply}
-    → Well z s
+    → WellIn z s
     → Taken z s s′ x m m′ r
     → After s s′ x (outcomeOf (abs s) x (length m))
 after-of {z} {s} {s′} {m} {m′} {x} {r} w t =
-    let o : outcomeOf (abs s) x (length m) ≡ given z s x m = outcome-of x (length m) w in
-    let e : sizesOf s ≡ sizesIn z = holds-sizes (w .holds) in
+    let o : outcomeOf (abs s) x (length m) ≡ given z s x m = outcome-of x (length m) (w .well) in
+    let e : sizesOf s ≡ sizesIn z = holds-sizes (w .well .holds) in
     record {
       wellFormed = formed-of (well-after w t);
       machine = holds-machine (t .holds) ∙ t .machine ∙ ap (λ (y : Outcome). y .after) (sym o);
+      sizes = holds-sizes (t .holds) ∙ sym e;
       stores = t .spares .stores;
       writable =
           subst (λ (v : machine.Sizes). Writable fields.layout1 (fields.mostOf v) (fields.counts v) (t .spares .stores)) (sym e)
           (t .spares .writable);
       bytes =
           t .spares .bytes ∙ ap (λ (v : machine.Sizes). writes fields.layout1 (fields.counts v) s (t .spares .stores)) (sym e);
-      spared = subst₂ (λ (v v′ : machine.Sizes). Spared v v′ s s′) (sym e) (sym (holds-sizes (t .holds))) (spares-unused (w .holds) (t .spares));
-      settled =
-          subst₂ (λ (v v′ : machine.Sizes). SettledAt v v′ s s′) (sym e) (sym (holds-sizes (t .holds))) (t .spares .settled .stays);
+      stays = subst₂ (λ (v v′ : machine.Sizes). Stays v v′ s s′) (sym e) (sym (holds-sizes (t .holds))) (stays-in (t .spares));
       long = spares-length (t .spares);
       behind =
           subst (λ (v : machine.Sizes). drop (total fields.layout1 (fields.counts v)) s′ ≡ drop (total fields.layout1 (fields.counts v)) s)
           (sym e)
-          (spares-behind (w .holds) (t .spares));
-      left = λ n q. t .left n (ap (λ (y : Outcome). y .reply) (sym o) ∙ q) ∙ left-of z s n x w;
+          (spares-behind (w .well .holds) (t .spares));
+      left = λ n q. t .left n (ap (λ (y : Outcome). y .reply) (sym o) ∙ q) ∙ left-of z s n x (w .well);
     }

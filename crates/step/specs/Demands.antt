@@ -2,11 +2,10 @@
 use mathlib.Core.Path.{_≡_, refl, sym, ap, subst, _∙_}
 use mathlib.Core.Bool.{Bool, true, false, false≢true}
 use mathlib.Core.List.{List, [], _∷_, map}
-use mathlib.Core.Logic.{_⊎_, inl, inr}
 use mathlib.Core.Option.{Option, none, some}
-use Prim.Native.Nat.{ℕ, suc, _≤_, _<_}
+use Prim.Native.Nat.{ℕ}
 use native.Mathlib.Omega.{arith}
-use lib.Dec.{eqb, ltb}
+use lib.Dec.{ltb}
 use lib.ListN.{length}
 use Rattle.machine.specs.Basics.{if_then_else_, elem}
 use Rattle.machine.specs.Machine.{Machine, fresh, asleep}
@@ -14,7 +13,7 @@ use Rattle.machine.specs.Good.{Each}
 use Rattle.machine.specs.Table.{table, holds}
 use Rattle.machine.specs.Bytes.{decode}
 use Rattle.machine.specs.Step.{Step}
-use Rattle.machine.specs.Outcome.{Outcome, Answer, Reply, answer, refused}
+use Rattle.machine.specs.Outcome.{Answer, Reply, answer, refused}
 use Rattle.machine.specs.StepOf.{outcomeOf, refusing, stepOf}
 use Rattle.kept.specs.Allowed.{caused}
 use Rattle.kept.specs.Refused.{refused-by}
@@ -29,8 +28,8 @@ use Rattle.make.specs.Fresh.{sizesFor, makeAnswer, makeBytes}
 use Rattle.make.specs.Holds.{Made, make-made}
 use Rattle.outcome.specs.Means.{told}
 use Rattle.step.specs.Words.{numberOf, answerNumber, Lent, wordsAfter}
-use Rattle.step.specs.After.{After, leftOf}
-use Rattle.step.specs.Exported.{outcome, messageAfter, Answered, Malformed, Exported, formed, malformed}
+use Rattle.step.specs.After.{leftOf}
+use Rattle.step.specs.Exported.{outcome, messageAfter, Answered, Exported, formed, malformed}
 
 -- Demand 1: a step, handed in with whatever bytes, comes back with an answer or with one number of the table; a refused one changes
 -- nothing lent to it, save the one pid that a failed page copy uses up.

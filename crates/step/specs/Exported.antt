@@ -2,7 +2,7 @@
 use mathlib.Core.Path.{_≡_, refl, sym, ap, subst, _∙_}
 use mathlib.Core.Bool.{Bool, true, false, false≢true}
 use mathlib.Core.List.{List, [], _∷_, _++_}
-use mathlib.Core.Option.{Option, none, some}
+use mathlib.Core.Option.{Option}
 use Prim.Native.Nat.{ℕ, _≤_, _<_}
 use native.Mathlib.Omega.{arith}
 use borrow.Author.Tests.{eqb-true}
@@ -30,8 +30,8 @@ use Rattle.outcome.specs.Stepped.{Well}
 use Rattle.outcome.specs.Length.{lengthOf}
 use Rattle.proc.specs.Taken.{Taken, statusIn, given}
 use Rattle.step.specs.declared.Words.{Words}
-use Rattle.step.specs.Words.{numberOf, answerNumber, firstOf, secondOf, Lent, lent, wordsAfter, theWords, wordsIn, WordsAre}
-use Rattle.step.specs.After.{After, well-of, outcome-of, after-of}
+use Rattle.step.specs.Words.{numberOf, answerNumber, firstOf, secondOf, Lent, lent, wordsAfter, wordsIn, WordsAre}
+use Rattle.step.specs.After.{After, WellIn, well-of, outcome-of, after-of}
 
 -- What the step bytes b ask, with the message buffer m, gives this on the machine of a well-formed state s.
 abbrev pub outcome : (s b m : List ℕ) → Outcome
@@ -87,14 +87,17 @@ checked {s} e d = subst (λ (x : Bool). Decides x (WellFormed s)) e d
 pub checked-long : (s : List ℕ) {c : Bool} → c ≡ true → Decides c (WellFormed s) → 80 ≤ length s
 checked-long s e d = well-long (checked e d)
 
+pub checked-in : {z : Sizes} {s : List ℕ} {c : Bool} → c ≡ true → Decides c (WellFormed s) → SizesRead s z → WellIn z s
+checked-in e d r = well-of (checked e d) (r .same)
+
 pub checked-well : {z : Sizes} {s : List ℕ} {c : Bool} → c ≡ true → Decides c (WellFormed s) → SizesRead s z → Well z s
-checked-well e d r = well-of (checked e d) (r .same)
+checked-well e d r = checked-in e d r .well
 
 pub replies-of
-    : {z : Sizes} {s s′ b m m′ : List ℕ} {r : Reply} → Well z s → Taken z s s′ (decode b) m m′ r → Replies s s′ b m m′ r
+    : {z : Sizes} {s s′ b m m′ : List ℕ} {r : Reply} → WellIn z s → Taken z s s′ (decode b) m m′ r → Replies s s′ b m m′ r
 unfolding messageAfter
 replies-of {z} {s} {s′} {b} {m} {m′} {r} w t =
-    let o : given z s (decode b) m ≡ outcome s b m = sym (outcome-of (decode b) (length m) w) in
+    let o : given z s (decode b) m ≡ outcome s b m = sym (outcome-of (decode b) (length m) (w .well)) in
     record {
       reply = t .reply ∙ ap (λ (y : Outcome). y .reply) o;
       long = t .long ∙ ap (λ (y : Outcome). length (told (y .reply))) o;
@@ -109,7 +112,7 @@ pub replied-taken
     → SizesRead s z
     → Taken z s s′ (decode b) m m′ r
     → Replied s s′ b m m′ r
-replied-taken e d z t = replies (checked e d) (replies-of (checked-well e d z) t)
+replied-taken e d z t = replies (checked e d) (replies-of (checked-in e d z) t)
 
 -- The words of a reply: its number, and where it is an answer its numbers and the length of its message.
 pub number-of : (r : Reply) (m st : List ℕ) → wordsIn r .number ≡ numberOf (means r m st)

@@ -3,3 +3,4 @@ pub mod Words
 pub mod After
 pub mod Exported
 pub mod Demands
+pub mod One

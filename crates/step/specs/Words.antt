@@ -1,15 +1,13 @@
 -- A reply in words.
-use mathlib.Core.Path.{_≡_, refl, sym, ap, subst, _∙_}
-use mathlib.Core.Bool.{Bool, true, false}
-use mathlib.Core.List.{List}
+use mathlib.Core.Path.{_≡_, sym, ap, _∙_}
+use mathlib.Core.Bool.{true, false}
 use Prim.Native.Nat.{ℕ}
 use lib.ListN.{length}
 use Rattle.machine.specs.Outcome as machine
 use Rattle.machine.specs.Outcome.{Answer, answer, refused}
 use Rattle.outcome.specs.declared.Reply.{Reply}
 use Rattle.outcome.specs.declared.Reply.the-variants.{Pid, Run, RunChild, Done, Asleep, Yes, No, Fired, Exit, Child, Idle, End, Refused}
-use Rattle.outcome.specs.Means.{means, told}
-use Rattle.outcome.specs.Length.{lengthOf}
+use Rattle.outcome.specs.Means.{told}
 use Rattle.step.specs.declared.Words.{Words}
 
 -- The number of an answer: 32 and up, above every number of the table.

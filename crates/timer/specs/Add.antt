@@ -16,11 +16,12 @@ use Rattle.timers.specs.Out.{none-absent}
 use Rattle.timers.specs.Insert.{insertStores, insertMem, linkMem, headField, queuedIn, InsertAsks, Inserted, Entered}
 use Rattle.timers.specs.Linked.{spot-queued}
 use Rattle.holds.specs.Holds.{Holds}
-use Rattle.holds.specs.Use.{SameKin, kin-at, Between, EachInUse}
-use Rattle.holds.specs.Touched.{Spares, settled-kin, spares-fewer}
+use Rattle.holds.specs.Use.{SameKin, kin-at, kin-join, Between}
+use Rattle.holds.specs.Leftover.{alive-kin}
+use Rattle.holds.specs.Touched.{Spares, spares-stores, spares-fewer}
 use Rattle.timer.specs.Only.{Owing, owing-after, aside, Only, only-none, only-set}
 use Rattle.timer.specs.Aside.{holds-aside}
-use Rattle.timer.specs.Use.{insert-uses, insert-in-use}
+use Rattle.timer.specs.Use.{insert-uses, insert-ceased, insert-in-use}
 use Rattle.timer.specs.Del.{machineIn, delStores, delMem, TimerAsks, Deleted, timers-of}
 
 -- The stores that queue timer t at deadline d, and the memory then.
@@ -62,6 +63,7 @@ pub record Added (z : Sizes) (s s′ : List ℕ) (t d : ℕ) : Type 0 where
   pub memory : memIn z s′ ≡ addMem z (memIn z s) t d
   pub machine : machineIn z s′ ≡ add t d (machineIn z s)
   pub spares : Spares z s s′
+  pub kin : SameKin (memIn z s) (memIn z s′)
 
 pub insert-asks : {z : Sizes} {s : List ℕ} {t : ℕ} → QueueAsks z s t → InsertAsks z s t
 insert-asks {z} {s} {t} a =
@@ -112,16 +114,11 @@ queued {z} {s} {s′} {t} {d} a r =
       machine =
           ap (λ (k : Memory). machineOf (sizesIn z) k) e
           ∙ machine-insert z m (spotIn z m d) t d (subst (λ (k : Memory). Entered z m k t d) e (r .entered));
-      spares = record {
-        stores = queueStores z m t d;
-        writable = r .writable;
-        bytes = r .wrote .bytes;
-        inUse =
-            subst (λ (k : Memory). EachInUse z m k (queueStores z m t d)) (sym e)
-            (insert-in-use z m (spotIn z m d) t d (spot-queued z m d (a .owing .holds .keeps .timed .queued)));
-        settled = settled-kin (kin-at e (record { pids = refl; parents = refl }));
-      };
-      kin = kin-at e (record { pids = refl; parents = refl });
+      spares =
+          spares-stores (a .owing .holds) (r .wrote .bytes) (r .writable) e
+          (insert-in-use z m (spotIn z m d) t d (spot-queued z m d (a .owing .holds .keeps .timed .queued)))
+          (insert-ceased m (spotIn z m d) t d);
+      kin = kin-at e (record { pids = refl });
       uses = λ k h. subst (λ (x : Memory). Between z k x m) (sym e) (insert-uses z m (spotIn z m d) t d k h);
     }
 
@@ -146,5 +143,6 @@ added {z} {s} {s₁} {s₂} {t} {d} a o q =
           q .machine
           ∙ ap (λ (x : Machine). withQueued (insert (record { timer = t; deadline = d }) (x .queued)) x) (o .machine)
           ∙ machine-add t d (machineIn z s);
-      spares = spares-fewer (o .spares) (o .fewer) (q .spares);
+      spares = spares-fewer (o .spares) (o .fewer) (q .spares) (alive-kin (q .kin));
+      kin = kin-join (o .fewer .kin) (q .kin);
     }

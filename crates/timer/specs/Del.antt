@@ -18,11 +18,11 @@ use Rattle.timers.specs.Remove.{removeStores, removeMem, headOut, linksOut, Rem
 use Rattle.timers.specs.Seek.{beforeIn}
 use Rattle.timers.specs.Linked.{before-queued}
 use Rattle.holds.specs.Holds.{Holds}
-use Rattle.holds.specs.Use.{kin-at, Fewer, EachInUse}
-use Rattle.holds.specs.Touched.{Spares, settled-kin}
+use Rattle.holds.specs.Use.{Fewer}
+use Rattle.holds.specs.Touched.{Spares, spares-stores}
 use Rattle.timer.specs.Only.{Owing, owing-after, aside, Only, only-none, only-set}
 use Rattle.timer.specs.Aside.{holds-aside}
-use Rattle.timer.specs.Use.{remove-fewer, remove-in-use}
+use Rattle.timer.specs.Use.{remove-fewer, remove-ceased, remove-in-use}
 
 -- The machine of the bytes at the sizes that the code carries.
 abbrev pub machineIn : Sizes → List ℕ → Machine
@@ -40,7 +40,7 @@ pub record TimerAsks (z : Sizes) (s : List ℕ) (t : ℕ) : Type 0 where
   pub owing : Owing z s
   pub index : t < timersIn z
 
--- The machine deleted it; it is off the queue, and its deadline stays, as all do.
+-- The machine deleted it, and it is off the queue.
 pub record Deleted (z : Sizes) (s s′ : List ℕ) (t : ℕ) : Type 0 where
   pub holds : (n : ℕ) → Holds z s n → Holds z s′ n
   pub owing : Owing z s′
@@ -48,7 +48,6 @@ pub record Deleted (z : Sizes) (s s′ : List ℕ) (t : ℕ) : Type 0 where
   pub memory : memIn z s′ ≡ delMem z (memIn z s) t
   pub machine : machineIn z s′ ≡ delete t (machineIn z s)
   pub off : memIn z s′ fields.isQueued t ≡ 0
-  pub deadlines : memIn z s′ fields.deadline ≡ memIn z s fields.deadline
   pub spares : Spares z s s′
   pub fewer : Fewer z (memIn z s) (memIn z s′)
 
@@ -101,15 +100,9 @@ deleted {z} {s} {s′} {t} a r =
           ap (λ (k : Memory). machineOf (sizesIn z) k) e
           ∙ machine-delete z m (m fields.isQueued t) (beforeIn z m t) t (subst (λ (k : Memory). Left z m k t) e (r .left));
       off = ap (λ (k : Memory). k fields.isQueued t) e ∙ alter-same (m fields.isQueued) t 0;
-      deadlines = ap (λ (k : Memory). k fields.deadline) e;
-      spares = record {
-        stores = delStores z m t;
-        writable = r .writable;
-        bytes = r .wrote .bytes;
-        inUse =
-            subst (λ (k : Memory). EachInUse z m k (delStores z m t)) (sym e)
-            (remove-in-use z m (m fields.isQueued t) (beforeIn z m t) t refl (before-queued z m t (a .owing .holds .keeps .timed .queued)));
-        settled = settled-kin (kin-at e (record { pids = refl; parents = refl }));
-      };
+      spares =
+          spares-stores (a .owing .holds) (r .wrote .bytes) (r .writable) e
+          (remove-in-use z m (m fields.isQueued t) (beforeIn z m t) t refl (before-queued z m t (a .owing .holds .keeps .timed .queued)))
+          (remove-ceased m (m fields.isQueued t) (beforeIn z m t) t refl);
       fewer = subst (Fewer z m) (sym e) (remove-fewer z m (m fields.isQueued t) (beforeIn z m t) t);
     }

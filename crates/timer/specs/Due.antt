@@ -8,7 +8,7 @@ use Rattle.machine.specs.Timers.{delete, remove}
 use Rattle.machine.specs.Update.{withQueued}
 use Rattle.layout.specs.Memory.{Memory, Ranged}
 use Rattle.layout.specs.Writes.{Write}
-use Rattle.chain.specs.Links.{Chain}
+use Rattle.chain.specs.Links.{Chain, alter-other}
 use Rattle.state.specs.Fields as fields
 use Rattle.state.specs.Abs.{timerList}
 use Rattle.state.specs.Places.{memIn, Wrote}
@@ -18,7 +18,7 @@ use Rattle.timers.specs.Entries.{entries}
 use Rattle.timers.specs.Insert.{queuedIn, queued-machine}
 use Rattle.exact.specs.Parts.{walk-none}
 use Rattle.holds.specs.Holds.{Holds}
-use Rattle.holds.specs.Use.{kin-same, Fewer}
+use Rattle.holds.specs.Use.{kin-same, calm-none, Fewer}
 use Rattle.holds.specs.Touched.{Spares, spares-none}
 use Rattle.timer.specs.Only.{Owing}
 use Rattle.timer.specs.Del.{machineIn, delStores, delMem, Deleted}
@@ -57,8 +57,8 @@ pub record PoppedDue (z : Sizes) (s s′ : List ℕ) (reading r : ℕ) : Type 0 
   pub head : (t : ℕ) → r ≡ suc t → HeadDue (machineIn z s) (machineIn z s′) reading t (memIn z s fields.deadline t)
   pub off : (t : ℕ) → r ≡ suc t → memIn z s′ fields.isQueued t ≡ 0
   pub on : (t : ℕ) → r ≡ suc t → 0 < memIn z s fields.isQueued t
-  -- the deadlines stay, also that of a timer that is off the queue
-  pub deadlines : memIn z s′ fields.deadline ≡ memIn z s fields.deadline
+  pub others : (t : ℕ) → (r ≡ suc t → ⊥) → memIn z s′ fields.isQueued t ≡ memIn z s fields.isQueued t
+  pub periods : memIn z s′ fields.period ≡ memIn z s fields.period
   pub spares : Spares z s s′
   pub fewer : Fewer z (memIn z s) (memIn z s′)
 
@@ -75,9 +75,10 @@ nothing-due {z} {s} {reading} o l =
       head = λ t e. absurd (omega (arith, e));
       off = λ t e. absurd (omega (arith, e));
       on = λ t e. absurd (omega (arith, e));
-      deadlines = refl;
+      others = λ t _. refl;
+      periods = refl;
       spares = spares-none;
-      fewer = record { fewer = λ f i e. e; kin = kin-same refl };
+      fewer = record { fewer = λ f i e. e; kin = kin-same refl; calm = calm-none };
     }
 
 pub popped-none : {z : Sizes} {s : List ℕ} {reading link : ℕ} → Owing z s → link ≡ memIn z s fields.timerHead 0 → link ≡ 0 → PoppedDue z s s reading 0
@@ -164,7 +165,9 @@ popped-due {z} {s} {s′} {reading} {link} {deadline} o e ne q l d =
               subst (λ (v : ℕ). HeadDue (machineIn z s) (machineIn z s′) reading v (memIn z s fields.deadline v)) h f;
           off = λ u y. let h : t ≡ u = omega (arith, y) in subst (λ (v : ℕ). memIn z s′ fields.isQueued v ≡ 0) h (k .off);
           on = λ u y. let h : t ≡ u = omega (arith, y) in subst (λ (v : ℕ). 0 < memIn z s fields.isQueued v) h on;
-          deadlines = k .deadlines;
+          others = λ u ne.
+              ap (λ (m : Memory). m fields.isQueued u) (k .memory) ∙ alter-other (memIn z s fields.isQueued) t 0 u (λ e. ne (ap suc e));
+          periods = ap (λ (m : Memory). m fields.period) (k .memory);
           spares = k .spares;
           fewer = k .fewer;
         })

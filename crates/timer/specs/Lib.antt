@@ -2,6 +2,7 @@
 pub mod Only
 pub mod Aside
 pub mod Use
+pub mod Rounds
 pub mod Del
 pub mod Add
 pub mod Pop

@@ -21,14 +21,13 @@ owing-after o h = record { owed = o .owed; holds = h (o .owed) (o .holds) }
 
 -- The fields of the timer queue, those that no group reads, and both.
 abbrev pub ofQueue : ℕ → Bool
-ofQueue f = eqb f fields.timerHead || eqb f fields.timerNext || eqb f fields.isQueued
+ofQueue f = eqb f fields.timerHead || eqb f fields.deadline || eqb f fields.timerNext || eqb f fields.isQueued
 
 abbrev pub plain : ℕ → Bool
 plain f =
     eqb f fields.ticks
     || eqb f fields.lastNow
     || eqb f fields.quantumEnd
-    || eqb f fields.deadline
     || eqb f fields.period
     || eqb f fields.timerRendez
     || eqb f fields.conditionBit

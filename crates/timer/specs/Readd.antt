@@ -12,22 +12,21 @@ use Rattle.machine.specs.Machine.{Setting, setting}
 use Rattle.machine.specs.Timers.{periodOf, readd}
 use Rattle.layout.specs.Memory.{Memory, Ranged}
 use Rattle.layout.specs.Writes.{Write}
+use Rattle.chain.specs.Links.{alter-same, alter-other}
 use Rattle.state.specs.Fields as fields
 use Rattle.state.specs.Abs.{table, machineOf}
 use Rattle.state.specs.Tables.{table-get, table-past}
 use Rattle.state.specs.Places.{sizesIn, memIn, Wrote}
 use Rattle.state.specs.declared.Sizes.{Sizes}
-use Rattle.timers.specs.Find.{timersIn}
+use Rattle.timers.specs.Find.{timersIn, spotIn}
 use Rattle.holds.specs.Holds.{Holds}
-use Rattle.holds.specs.Use.{SameKin, kin-same, Between}
+use Rattle.holds.specs.Use.{Between}
 use Rattle.holds.specs.Touched.{Spares, spares-none}
 use Rattle.timer.specs.Only.{Owing}
 use Rattle.timer.specs.Del.{machineIn}
+use Rattle.timer.specs.Use.{insert-on}
+use Rattle.timer.specs.Rounds.{periodIn, Rounds, rounds-same}
 use Rattle.timer.specs.Add.{queueStores, queueMem, QueuedAt}
-
--- The period of timer t; a process's own timer fires once, whatever its bytes.
-abbrev pub periodIn : Sizes → Memory → ℕ → ℕ
-periodIn z m t = if ltb t (z .timers) then m fields.period t else 0
 
 -- The stores, and the memory then, where timer t has the period p.
 abbrev pub readdStores : Sizes → Memory → ℕ → ℕ → List Write
@@ -53,7 +52,9 @@ pub record Readded (z : Sizes) (s s′ : List ℕ) (t : ℕ) : Type 0 where
   pub memory : memIn z s′ ≡ readdMem z (memIn z s) t (periodIn z (memIn z s) t)
   pub machine : machineIn z s′ ≡ readd (record { timer = t; deadline = memIn z s fields.deadline t }) (machineIn z s)
   pub spares : Spares z s s′
-  pub kin : SameKin (memIn z s) (memIn z s′)
+  pub rounds : Rounds z (memIn z s) (memIn z s′)
+  -- a periodic one is queued then
+  pub back : (periodIn z (memIn z s) t ≡ 0 → ⊥) → 0 < memIn z s′ fields.isQueued t
   -- no more is used than before, and in a memory in which it is queued
   pub uses : (k : Memory) → 0 < k fields.isQueued t → Between z k (memIn z s′) (memIn z s)
 
@@ -83,7 +84,8 @@ stays z s t o e =
       memory = rw e;
       machine = rw (period-of z (memIn z s) t, e);
       spares = spares-none;
-      kin = kin-same refl;
+      rounds = rounds-same refl;
+      back = λ ne. absurd (ne e);
       uses = λ k h. record { between = λ f i a b. b };
     }
 
@@ -98,6 +100,23 @@ readded-once {z} {s} {t} {p} a l e n = stays z s t (a .owing) (rw (lt-ltb t (z .
 pub readd-fits : {z : Sizes} {s : List ℕ} {t : ℕ} → ReaddAsks z s t → memIn z s fields.deadline t + memIn z s fields.period t ≤ 18446744073709551615
 unfolding Ranged
 readd-fits {z} {s} {t} a = omega (arith, a .small, a .owing .holds .state .ranged fields.period t)
+
+-- To be queued at another deadline is a round of a periodic timer.
+inserted-rounds
+    : (z : Sizes) (s s′ : List ℕ) (t d : ℕ) → (periodIn z (memIn z s) t ≡ 0 → ⊥) → memIn z s′ ≡ queueMem z (memIn z s) t d → Rounds z (memIn z s) (memIn z s′)
+inserted-rounds z s s′ t d ne e =
+    let m : Memory = memIn z s in
+    subst (Rounds z m) (sym e)
+    (record {
+      periods = refl;
+      once = λ u o. alter-other (m fields.deadline) t d u (λ q. ne (ap (periodIn z m) q ∙ o));
+      stays = λ u _ h. insert-on m (spotIn z m d) t d u h;
+      kin = record { pids = refl };
+      parents = refl;
+      exitPids = refl;
+      lengths = refl;
+      bytes = refl;
+    })
 
 returns-at
     : (z : Sizes) (s s′ : List ℕ) (t p : ℕ)
@@ -115,7 +134,8 @@ returns-at z s s′ t (suc p) e ne q =
       memory = rw e (q .memory);
       machine = rw (period-of z (memIn z s) t, e, ne-eqb (suc p) 0 ne) (q .machine);
       spares = q .spares;
-      kin = q .kin;
+      rounds = inserted-rounds z s s′ t (memIn z s fields.deadline t + suc p) (λ d. omega (arith, e, d)) (q .memory);
+      back = λ _. omega (arith, ap (λ (m : Memory). m fields.isQueued t) (q .memory), alter-same (memIn z s fields.isQueued) t 1);
       uses = q .uses;
     }
 

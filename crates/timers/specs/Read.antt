@@ -1,12 +1,12 @@
 -- A timer's record by the link to it.
-use mathlib.Core.Path.{_≡_, sym, subst, _∙_}
+use mathlib.Core.Path.{_≡_, _∙_}
 use mathlib.Core.List.{List}
 use Prim.Native.Nat.{ℕ, _+_, _-_, _*_, _≤_, _<_}
 use native.Mathlib.Omega.{arith}
 use lib.ListN.{length}
 use Rattle.memory.specs.Le.{le}
 use Rattle.layout.specs.Table.{start, slot}
-use Rattle.layout.specs.Memory.{Memory, cell-in}
+use Rattle.layout.specs.Memory.{cell-in}
 use Rattle.state.specs.Fields as fields
 use Rattle.state.specs.Places.{sizesIn, startIn, memIn}
 use Rattle.state.specs.declared.Sizes.{Sizes}

@@ -1,34 +1,30 @@
 -- What the parts of the check ensure, and each way out.
 use mathlib.Core.Path.{_≡_, refl, sym, ap, subst, _∙_}
-use mathlib.Core.Bool.{Bool, true, false, not}
+use mathlib.Core.Bool.{Bool, true, false}
 use mathlib.Core.List.{List, [], _∷_}
-use Prim.Native.Nat.{ℕ, _+_, _*_, _≤_, _<_}
+use Prim.Native.Nat.{ℕ, _≤_, _<_}
 use native.Mathlib.Omega.{arith}
-use borrow.Author.Tests.{not-true, not-false, leb-true, leb-false, eqb-true, eqb-false, ne-eqb}
+use borrow.Author.Tests.{leb-true, leb-false, eqb-true, eqb-false, ne-eqb}
 use lib.Dec.{leb, eqb}
 use lib.ListN.{length}
-use Rattle.memory.specs.Le.{le}
-use Rattle.machine.specs.Basics.{if_then_else_, count}
+use Rattle.machine.specs.Basics.{count}
 use Rattle.machine.specs.Machine as machine
 use Rattle.machine.specs.Good.{SizesInRange, Each}
 use Rattle.layout.specs.Table.{start, total}
 use Rattle.layout.specs.Memory.{Memory}
-use Rattle.layout.specs.Writes.{State}
 use Rattle.state.specs.Fields as fields
 use Rattle.state.specs.Abs.{sizesOf, isSet}
 use Rattle.state.specs.Places.{sizesIn, totalIn}
 use Rattle.state.specs.WellFormed.{WellFormed, Used, Index, markValue, ageList}
 use Rattle.state.specs.declared.Sizes.{Sizes}
-use Rattle.rules.specs.Facts.{Facts}
-use Rattle.rules.specs.Code.{memIn, Long, Whole, Decides}
-use Rattle.exact.specs.Exact.{Checked, decides-well, whole-checked, checked-whole}
+use Rattle.rules.specs.Facts.{Facts, IdleOk}
+use Rattle.rules.specs.Code.{memIn, Decides}
+use Rattle.exact.specs.Exact.{Checked}
 use Rattle.scan.specs.All.{ProcessesOk}
-use Rattle.walks.specs.Queues.{QueueFacts, queue-facts}
-use Rattle.kin.specs.Kin.{KinAsks, KinFacts}
+use Rattle.walks.specs.Queues.{QueueFacts}
+use Rattle.kin.specs.Kin.{KinFacts}
 use Rattle.kin.specs.Age.{Aged}
 use Rattle.exact.specs.Sums.{all-met}
-use Rattle.bounds.specs.InRange.{StateIn}
-use Rattle.index.specs.Words.{IndexIn}
 use Rattle.lists.specs.Lists.{bit}
 
 -- The header was read.
@@ -96,8 +92,8 @@ facts-processes f =
 pub facts-kin : {z : machine.Sizes} {m : Memory} → Facts z m → KinFacts z m
 facts-kin f = record { kin = f .kin; nchild = f .nchild }
 
-pub facts-all : {z : machine.Sizes} {m : Memory} → ProcessesOk z m → QueueFacts z m → KinFacts z m → Index z m → Facts z m
-facts-all p q k x =
+pub facts-all : {z : machine.Sizes} {m : Memory} → ProcessesOk z m → QueueFacts z m → KinFacts z m → IdleOk z m → Index z m → Facts z m
+facts-all p q k i x =
     record {
       header = p .header;
       records = p .records;
@@ -118,6 +114,7 @@ facts-all p q k x =
       kin = k .kin;
       nchild = k .nchild;
       index = x;
+      idle = i;
     }
 
 -- Everyone who lives is met by age.

@@ -84,6 +84,9 @@ fn facts_ok(s: &[u8], z: Sizes) -> bool
     if !kin::kin_ok(s, z) {
         return false;
     }
+    if !idle::idle_ok(s, z) {
+        return false;
+    }
     index::index_ok(s, z)
 }
 

@@ -17,7 +17,8 @@ use Rattle.state.specs.declared.Sizes.{Sizes}
 use Rattle.exact.specs.Tables.{some-link}
 use Rattle.holds.specs.Whole.{holds-bounds}
 use Rattle.holds.specs.Frames.{cells-same}
-use Rattle.holds.specs.Did.{Did, machineIn, same, WritableIn, writable-join}
+use Rattle.holds.specs.Leftover.{Ceased}
+use Rattle.holds.specs.Did.{Did, machineIn, same, WritableIn, spared-stores, writable-join}
 use Rattle.free.specs.Asks.{CellsIn, cells-in}
 use Rattle.free.specs.FindCell.{CellFound}
 use Rattle.free.specs.UseCell.{useCellWrites, useCellMem, UseCellAsks, UseCellDone, use-cell-asks}
@@ -30,7 +31,7 @@ use Rattle.waitq.specs.Messages.{messageStores, messageMem}
 use Rattle.waitq.specs.WriteCode.{WriteAsks, MessageIn}
 use Rattle.waitq.specs.Marks.{used-cells, changed-keeps}
 use Rattle.waitq.specs.Add.{addStores, addMem, add-same, add-changed, add-machine, add-but, add-owned}
-use Rattle.waitq.specs.InUse.{add-in-use}
+use Rattle.waitq.specs.InUse.{add-in-use, add-ceased}
 use Rattle.waitq.specs.Added.{AddAsks, cellFor, AddDone}
 
 module _ {z : Sizes} {s : List ℕ} {i : ℕ} (a : AddAsks z s i) where
@@ -155,7 +156,9 @@ module _ {z : Sizes} {s : List ℕ} {i : ℕ} (a : AddAsks z s i) where
             machine =
                 ap (machineOf (sizesIn z)) memory-then
                 ∙ add-machine (message name pid status) (holds-bounds (a .holds)) (a .holds .keeps .cells) here pid;
-            inUse = add-in-use (z .cells) i c pid (message name pid status) (here .short) (a .used);
+            spared =
+                spared-stores (a .holds) (wrote-then .bytes) writable-then memory-then
+                (add-in-use (z .cells) i c pid (message name pid status) (here .short) (a .used));
           }
 
       the-cell : c ≡ cellFor z s
@@ -173,4 +176,6 @@ module _ {z : Sizes} {s : List ℕ} {i : ℕ} (a : AddAsks z s i) where
                 (machineIn z s)))
                 the-cell did-then;
             changed = subst (λ (x : ℕ). Changed (sizesIn z) (memIn z s) (memIn z s₃) i (x ∷ exitList (memIn z s) i)) the-cell changed-then;
+            ceased =
+                subst (Ceased z (memIn z s)) (sym memory-then) (add-ceased (z .cells) (memIn z s) i c pid (message name pid status) (here .free));
           }

@@ -13,6 +13,7 @@ use Rattle.state.specs.Places.{sizesIn, memIn}
 use Rattle.state.specs.WellFormed.{Used}
 use Rattle.state.specs.declared.Sizes.{Sizes}
 use Rattle.holds.specs.Holds.{Holds}
+use Rattle.holds.specs.Leftover.{Ceased}
 use Rattle.holds.specs.Did.{Did, machineIn, same}
 use Rattle.waitq.specs.Change.{Changed}
 use Rattle.waitq.specs.Add.{addStores, addMem}
@@ -40,3 +41,4 @@ pub record AddDone (z : Sizes) (s s′ : List ℕ) (i pid : ℕ) (name status : 
       (process (machineIn z s) i))
       (machineIn z s))
   pub changed : Changed (sizesIn z) (memIn z s) (memIn z s′) i (cellFor z s ∷ exitList (memIn z s) i)
+  pub ceased : Ceased z (memIn z s) (memIn z s′)

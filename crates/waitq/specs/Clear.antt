@@ -18,7 +18,8 @@ use Rattle.state.specs.declared.Sizes.{Sizes}
 use Rattle.exact.specs.Bounds.{inside}
 use Rattle.holds.specs.Holds.{Holds}
 use Rattle.holds.specs.Whole.{holds-bounds}
-use Rattle.holds.specs.Use.{EachInUse, none, Fewer, fewer-same, same-use, fewer-join, between-first, in-use-join}
+use Rattle.holds.specs.Use.{Fewer, fewer-same, same-use, fewer-join, between-first}
+use Rattle.holds.specs.Leftover.{Spared, spared-join, Ceased, ceased-lasts, ceased-join, quiet-calm, alive-kin, Steady, steady-none, steady-join}
 use Rattle.holds.specs.Did.{Did, writesIn, WritableIn, writable-join, machineIn, same}
 use Rattle.waitq.specs.Change.{Changed}
 use Rattle.waitq.specs.Join.{changed-join, changed-none}
@@ -27,6 +28,7 @@ use Rattle.waitq.specs.Push.{headStores}
 use Rattle.waitq.specs.Pop.{unlinkStores, popStores}
 use Rattle.waitq.specs.Marks.{holds-cells}
 use Rattle.waitq.specs.Take.{takeStores, takeMem, TakeAsks, TakeDone}
+use Rattle.waitq.specs.InUse.{take-steady}
 
 -- The newest k exits of record i are taken, n being how many cells there are: the memory then, and the stores.
 unfoldable pub takesMem : ℕ → ℕ → Memory → ℕ → Memory
@@ -36,6 +38,12 @@ takesMem n (suc k) m i = takeMem n (takesMem n k m i) i (takesMem n k m i fields
 unfoldable pub takesStores : ℕ → ℕ → Memory → ℕ → List Write
 takesStores n zero m i = []
 takesStores n (suc k) m i = takesStores n k m i ++ takeStores n (takesMem n k m i) i (takesMem n k m i fields.exits i - 1)
+
+-- The cells keep what they kept.
+takes-steady : (n k : ℕ) (m : Memory) (i : ℕ) → Steady m (takesMem n k m i)
+unfolding takesMem
+takes-steady n zero m i = steady-none
+takes-steady n (suc k) m i = steady-join (takes-steady n k m i) (take-steady n (takesMem n k m i) i (takesMem n k m i fields.exits i - 1))
 
 -- What the code asks: every group holds, and the record is in use.
 pub record ClearAsks (z : Sizes) (s : List ℕ) (i : ℕ) : Type 0 where
@@ -51,6 +59,8 @@ pub record ClearDone (z : Sizes) (s s′ : List ℕ) (i : ℕ) : Type 0 where
   pub number : memIn z s′ fields.nexits i ≡ 0
   pub changed : Changed (sizesIn z) (memIn z s) (memIn z s′) i []
   pub fewer : Fewer z (memIn z s) (memIn z s′)
+  pub ceased : Ceased z (memIn z s) (memIn z s′)
+  pub steady : Steady (memIn z s) (memIn z s′)
 
 -- As it goes: k are left.
 pub record Clearing (z : Sizes) (s₀ s : List ℕ) (i k : ℕ) : Type 0 where
@@ -63,7 +73,8 @@ pub record Clearing (z : Sizes) (s₀ s : List ℕ) (i k : ℕ) : Type 0 where
   pub writable : WritableIn z (takesStores (z .cells) (memIn z s₀ fields.nexits i - k) (memIn z s₀) i)
   pub memory : memIn z s ≡ takesMem (z .cells) (memIn z s₀ fields.nexits i - k) (memIn z s₀) i
   pub changed : Changed (sizesIn z) (memIn z s₀) (memIn z s) i (exitList (memIn z s) i)
-  pub inUse : EachInUse z (memIn z s₀) (memIn z s) (takesStores (z .cells) (memIn z s₀ fields.nexits i - k) (memIn z s₀) i)
+  pub spared : Spared z (memIn z s₀) (memIn z s)
+  pub ceased : Ceased z (memIn z s₀) (memIn z s)
   pub fewer : Fewer z (memIn z s₀) (memIn z s)
 
 pub clear-reach : {z : Sizes} {s : List ℕ} {i : ℕ} → ClearAsks z s i → ReachIn z s (slot 1 36 1) i
@@ -83,8 +94,9 @@ clear-start {z} {s} {i} {k} a e =
       writable = rw d tt;
       memory = rw d;
       changed = changed-none (holds-bounds (a .holds)) (a .holds .keeps .cells) (a .used);
-      inUse = rw d none;
-      fewer = fewer-same (same-use refl refl refl refl refl refl);
+      spared = record { spared = λ f j a b. refl };
+      ceased = ceased-lasts (record { lasts = λ f j u. u });
+      fewer = fewer-same (same-use refl refl refl refl refl refl refl refl refl);
     }
 
 pub clear-take : {z : Sizes} {s₀ s : List ℕ} {i k : ℕ} → Clearing z s₀ s i k → 0 < k → TakeAsks z s i
@@ -114,7 +126,7 @@ clear-step {z} {s₀} {s} {s′} {i} {k} {k′} {r} c l t e =
     let w : takeStores (z .cells) (memIn z s) i (r - 1) ≡ takeStores (z .cells) m i (m fields.exits i - 1) =
     ap₂ (λ (y : Memory) (x : ℕ). takeStores (z .cells) y i x) (c .memory) f
     in
-    let u : EachInUse z (memIn z s) (memIn z s′) (takeStores (z .cells) (memIn z s) i (r - 1)) = rw (t .did .memory) (t .did .inUse) in
+    let u : Spared z (memIn z s) (memIn z s′) = subst (Spared z (memIn z s)) (sym (t .did .memory)) (t .did .spared) in
     record {
       asks =
           record {
@@ -143,9 +155,8 @@ clear-step {z} {s₀} {s} {s′} {i} {k} {k′} {r} c l t e =
           (subst (WritableIn z) w (t .did .writable)));
       memory = rw q (t .did .memory ∙ ap₂ (λ (y : Memory) (x : ℕ). takeMem (z .cells) y i x) (c .memory) f);
       changed = changed-join (inside (holds-bounds (c .asks .holds)) fields.pid i (c .asks .used)) (c .changed) g;
-      inUse =
-          rw q
-          (in-use-join (between-first (c .fewer)) (c .inUse) (subst (EachInUse z (memIn z s) (memIn z s′)) w u));
+      spared = spared-join (c .spared) u (between-first (c .fewer));
+      ceased = ceased-join (c .ceased) u (t .ceased) (quiet-calm (c .fewer .calm) (alive-kin (t .fewer .kin)));
       fewer = fewer-join (c .fewer) (t .fewer);
     }
 
@@ -169,9 +180,11 @@ clear-end {z} {s₀} {s} {i} {k} c l =
             writable = rw q at (c .writable);
             memory = rw q at (c .memory);
             machine = d .machine;
-            inUse = subst (λ (x : Memory). EachInUse z m x (takesStores (z .cells) (m fields.nexits i) m i)) (rw q at (c .memory)) (rw q at (c .inUse));
+            spared = subst (Spared z m) (rw q at (c .memory)) (c .spared);
           };
       number = omega (arith, c .left, l);
       changed = d;
       fewer = c .fewer;
+      ceased = c .ceased;
+      steady = subst (Steady m) (sym (c .memory)) (takes-steady (z .cells) (m fields.nexits i - k) m i);
     }

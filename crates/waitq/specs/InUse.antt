@@ -1,20 +1,22 @@
 -- What the stores to the wait queues go to: the machine uses it.
-use mathlib.Core.Path.{_≡_, refl}
+use mathlib.Core.Path.{_≡_, refl, ap}
 use mathlib.Core.Bool.{Bool, true, false}
 use mathlib.Core.List.{List, [], _∷_}
 use Prim.Native.Nat.{ℕ, suc, _+_, _*_, _/_, _%_, _^_, _≤_, _<_}
 use native.Mathlib.Omega.{arith}
-use lib.Dec.{lit<}
+use lib.Dec.{eqb, lit<}
 use lib.ListN.{length}
+use Rattle.machine.specs.Basics.{if_then_else_}
 use Rattle.layout.specs.Memory.{Memory}
 use Rattle.layout.specs.Writes.{to}
-use Rattle.chain.specs.Links.{alter-same}
+use Rattle.chain.specs.Links.{alter-same, alter-other}
 use Rattle.state.specs.Fields as fields
 use Rattle.state.specs.WellFormed.{isFull}
 use Rattle.state.specs.declared.Sizes.{Sizes}
 use Rattle.exact.specs.Resumes.{set-test}
 use Rattle.holds.specs.Use.{SameKin, usedBy, EachInUse, none, more, before, after, in-use-runs, Fewer}
 use Rattle.holds.specs.Fewer.{zeros-alter, fewer-by}
+use Rattle.holds.specs.Leftover.{Ceased, ceased-by, ceased-grown, Steady}
 use Rattle.free.specs.Record.{wordOf, bitOf}
 use Rattle.free.specs.Cell.{aboveOf, aboveBit}
 use Rattle.free.specs.UseCell.{cellWrites, useCellWrites, dropCellWrites}
@@ -69,7 +71,22 @@ add-in-use {m = m} n i c pid bs l u =
     in-use-runs (mark-in-use n m c)
     (in-use-runs (message-in-use c (127 * c) 0 bs o (omega arith) (omega (arith, e)) (omega (arith, e))) (push-in-use m i c pid (length bs) o u))
 
--- A cell that is freed, which was used, and nothing more is used then.
+-- A cell that is freed keeps what it kept.
+pub take-steady : (n : ℕ) (m : Memory) (i c : ℕ) → Steady m (takeMem n m i c)
+unfolding popStores unlinkStores headStores
+take-steady n m i c =
+    record {
+      calm = record { parents = refl; deadlines = refl; exitPids = refl; lengths = refl; bytes = refl };
+      parents = refl;
+      quanta = refl;
+      children = refl;
+      kinds = refl;
+      conditions = refl;
+      objects = refl;
+      names = refl;
+    }
+
+-- It was used, and nothing more is used then.
 module _ {z : Sizes} {m : Memory} (n i c : ℕ) where
   pop-in-use : {m′ : Memory} → 0 < m fields.owner c → 0 < m fields.pid i → EachInUse z m m′ (popStores m i c)
   unfolding usedBy popStores unlinkStores headStores
@@ -81,9 +98,28 @@ module _ {z : Sizes} {m : Memory} (n i c : ℕ) where
 
   pub take-fewer : Fewer z m (takeMem n m i c)
   unfolding popStores unlinkStores headStores
-  take-fewer = fewer-by refl refl refl (λ j e. e) (zeros-alter (m fields.owner) c) (λ j. refl)
+  take-fewer = fewer-by refl refl (λ j e. e) (zeros-alter (m fields.owner) c) (take-steady n m i c .calm)
 
--- An exit that is queued leaves the records of all.
+  pub take-ceased : Ceased z m (takeMem n m i c)
+  unfolding popStores unlinkStores headStores
+  take-ceased =
+      ceased-by (take-steady n m i c .calm) refl (λ f j r u v. absurd (omega (arith, u, v))) (λ t u v. absurd (omega (arith, u, v))) (λ x u v. go x u (eqb c x) v)
+    where
+      go : (x : ℕ) → 0 < m fields.owner x → (b : Bool) → (if b then 0 else m fields.owner x) ≡ 0 → (if b then 0 else m fields.cellNext x) ≡ 0
+      go x u true v = refl
+      go x u false v = absurd (omega (arith, u, v))
+
+-- An exit that is queued in a free cell ceases to use nothing, and leaves the pids of all.
+pub add-ceased : {z : Sizes} (n : ℕ) (m : Memory) (i c pid : ℕ) (bs : List ℕ) → m fields.owner c ≡ 0 → Ceased z m (addMem n m i c pid bs)
+unfolding cellStores headStores pushStores
+add-ceased {z} n m i c pid bs e =
+    ceased-grown (record { alive = λ j u. u }) (λ j u. refl) (λ t u. u) (λ x u. owned x u (eqb c x))
+    (λ x u. alter-other (m fields.messageLength) c (length bs) x (λ q. omega (arith, u, e, ap (m fields.owner) q)))
+  where
+    owned : (x : ℕ) → 0 < m fields.owner x → (b : Bool) → 0 < (if b then suc i else m fields.owner x)
+    owned x u true = omega arith
+    owned x u false = u
+
 pub add-kin : (n : ℕ) (m : Memory) (i c pid : ℕ) (bs : List ℕ) → SameKin m (addMem n m i c pid bs)
 unfolding cellStores headStores pushStores
-add-kin n m i c pid bs = record { pids = refl; parents = refl }
+add-kin n m i c pid bs = record { pids = refl }

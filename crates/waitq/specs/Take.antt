@@ -15,6 +15,7 @@ use Rattle.state.specs.WellFormed.{Used}
 use Rattle.state.specs.declared.Sizes.{Sizes}
 use Rattle.holds.specs.Holds.{Holds}
 use Rattle.holds.specs.Use.{Fewer}
+use Rattle.holds.specs.Leftover.{Ceased}
 use Rattle.holds.specs.Did.{Did, machineIn, same}
 use Rattle.free.specs.UseCell.{dropCellWrites, dropCellMem}
 use Rattle.waitq.specs.Change.{Changed}
@@ -44,3 +45,4 @@ pub record TakeDone (z : Sizes) (s s′ : List ℕ) (i r : ℕ) : Type 0 where
   pub changed : Changed (sizesIn z) (memIn z s) (memIn z s′) i (rest (exitList (memIn z s) i))
   pub newest : newest (process (machineIn z s) i) ≡ exitAt (memIn z s) (r - 1)
   pub fewer : Fewer z (memIn z s) (memIn z s′)
+  pub ceased : Ceased z (memIn z s) (memIn z s′)

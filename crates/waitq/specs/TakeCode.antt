@@ -16,7 +16,8 @@ use Rattle.state.specs.WellFormed.{Used, Cells, Index}
 use Rattle.state.specs.declared.Sizes.{Sizes}
 use Rattle.holds.specs.Whole.{holds-bounds}
 use Rattle.holds.specs.Use.{Fewer}
-use Rattle.holds.specs.Did.{WritableIn, writable-join}
+use Rattle.holds.specs.Leftover.{Ceased}
+use Rattle.holds.specs.Did.{WritableIn, spared-stores, writable-join}
 use Rattle.free.specs.Asks.{cells-in}
 use Rattle.free.specs.UseCell.{dropCellWrites, dropCellMem, DropCellAsks, DropCellDone, drop-cell-asks}
 use Rattle.free.specs.Restored.{ButOwner, dropped-cell}
@@ -28,7 +29,7 @@ use Rattle.waitq.specs.Pop.{unlinkStores, popStores, popMem}
 use Rattle.waitq.specs.PopCode.{PopAsks, PopDone, pop-some, pop-cell, pop-owned}
 use Rattle.waitq.specs.Marks.{dropped-same, dropped-cells, dropped-changed, changed-keeps, holds-cells}
 use Rattle.waitq.specs.Take.{takeStores, takeMem, TakeAsks, TakeDone}
-use Rattle.waitq.specs.InUse.{take-in-use, take-fewer}
+use Rattle.waitq.specs.InUse.{take-in-use, take-fewer, take-ceased}
 
 -- `pop_exit` changes no word, and of the owners only the cell's.
 pop-but : (m : Memory) (i c : ℕ) → ButOwner m (popMem m i c) c
@@ -143,6 +144,15 @@ module _ {z : Sizes} {s : List ℕ} {i : ℕ} (a : TakeAsks z s i) where
     marked : Wrote z s s₁ (dropCellWrites (z .cells) (memIn z s) (r - 1))
     marked = record { bytes = rw the-link (d .bytes); long = d .state .long }
 
+    then-wrote : Wrote z s s₂ (takeStores (z .cells) (memIn z s) i (r - 1))
+    unfolding takeStores
+    then-wrote = wrote-join z (dropCellWrites (z .cells) (memIn z s) (r - 1)) (popStores (memIn z s) i (r - 1)) marked (taken .wrote)
+
+    then-writable : WritableIn z (takeStores (z .cells) (memIn z s) i (r - 1))
+    unfolding takeStores
+    then-writable =
+        writable-join z (dropCellWrites (z .cells) (memIn z s) (r - 1)) (popStores (memIn z s) i (r - 1)) (rw the-link (d .writable)) (taken .writable)
+
     pub took : TakeDone z s s₂ i r
     unfolding takeStores
     took =
@@ -155,14 +165,13 @@ module _ {z : Sizes} {s : List ℕ} {i : ℕ} (a : TakeAsks z s i) where
                       state = p .stored .cells .state;
                       keeps = changed-keeps (holds-bounds h) (h .keeps) (a .used) same-then (taken .changed) index-then;
                     };
-                bytes =
-                    wrote-join z (dropCellWrites (z .cells) (memIn z s) (r - 1)) (popStores (memIn z s) i (r - 1)) marked (taken .wrote) .bytes;
-                writable =
-                    writable-join z (dropCellWrites (z .cells) (memIn z s) (r - 1)) (popStores (memIn z s) i (r - 1)) (rw the-link (d .writable))
-                    (taken .writable);
+                bytes = then-wrote .bytes;
+                writable = then-writable;
                 memory = memory-then;
                 machine = taken .machine;
-                inUse = take-in-use (z .cells) i (r - 1) (rw the-link (owned e)) (a .used);
+                spared =
+                    spared-stores (a .holds) (then-wrote .bytes) then-writable memory-then
+                    (take-in-use (z .cells) i (r - 1) (rw the-link (owned e)) (a .used));
               };
           link = taken .link;
           range = p .range;
@@ -170,4 +179,5 @@ module _ {z : Sizes} {s : List ℕ} {i : ℕ} (a : TakeAsks z s i) where
           changed = taken .changed;
           newest = taken .newest;
           fewer = subst (Fewer z (memIn z s)) (sym memory-then) (take-fewer (z .cells) i (r - 1));
+          ceased = subst (Ceased z (memIn z s)) (sym memory-then) (take-ceased (z .cells) i (r - 1));
         }

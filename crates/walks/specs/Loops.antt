@@ -1,10 +1,9 @@
 -- Loops over all numbers below a bound: counting, summing, and a fact of each.
-use mathlib.Core.Path.{_≡_, refl, subst, _∙_}
+use mathlib.Core.Path.{_≡_, refl, _∙_}
 use mathlib.Core.Bool.{Bool, true, false, false≢true}
 use Prim.Native.Nat.{ℕ, _+_, _≤_, _<_}
 use native.Mathlib.Numerals.{add-one}
 use native.Mathlib.Omega.{arith}
-use borrow.Author.Count.{below-more}
 use Rattle.machine.specs.Basics.{if_then_else_}
 use Rattle.rules.specs.Facts.{countBelow}
 use Rattle.rules.specs.Code.{Decides}

@@ -1,5 +1,5 @@
 -- `index::record_word` meets its contract: the bits from b up have made the word.
-use Prim.Native.Nat.{_+_, _*_, _-_}
+use Prim.Native.Nat.{_+_, _*_}
 use borrow.Author.Needs.{needs}
 use Rattle.index.specs.Gather.{Gathering, usedBit, gather-start, gather-small, gather-more, in-use}
 use Rattle.rules.specs.Code.{memIn}

@@ -1,6 +1,6 @@
 -- `index::zeros_from` meets its contract: the words below w are 0.
 use mathlib.Core.Path.{refl}
-use Prim.Native.Nat.{_-_, _≤_}
+use Prim.Native.Nat.{_-_}
 use borrow.Author.Needs.{needs}
 use Rattle.layout.specs.Table.{slot}
 use Rattle.state.specs.Places.{cellIn}

@@ -1,7 +1,6 @@
 -- `parse::read_numbers` meets its contract: the numbers so far are there, and the line goes on at `at`. The measure is how many are left.
 use Rattle.parse.specs.Filled.{Filling, filling-start, filling-more, filled-short, filled-none, filled-end}
 use Prim.Native.Nat.{_-_}
-use lib.ListN.{length}
 use borrow.Author.Needs.{needs}
 use Rattle.parse.proofs.read_numbers.Statement.{statement}
 use Rattle.parse.proofs.read_numbers.Tie as tie

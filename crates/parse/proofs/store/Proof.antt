@@ -1,7 +1,6 @@
 -- `parse::store` meets its contract: the first `j` numbers are there. The measure is how many are left.
 use Rattle.parse.specs.Stores.{Storing, storing-start, storing-more, stored}
 use Prim.Native.Nat.{_-_}
-use lib.ListN.{length}
 use borrow.Author.Needs.{needs}
 use Rattle.parse.proofs.store.Statement.{statement}
 use Rattle.parse.proofs.store.Tie as tie

@@ -33,22 +33,30 @@ say-rest-requires : tie.Need-say-rest-requires Inv-loop μ-loop
 say-rest-requires c κs = search needs
 
 -- src/main.rt:278:13
+tell-requires : tie.Need-tell-requires Inv-loop μ-loop
+tell-requires c κs = search needs
+
+-- src/main.rt:279:13
 returns : tie.Need-returns Inv-loop μ-loop
 returns c = search needs
 
--- src/main.rt:280:13
+-- src/main.rt:281:13
 replay-list-requires : tie.Need-replay-list-requires Inv-loop μ-loop
 replay-list-requires c κs = search needs
 
--- src/main.rt:281:13
+-- src/main.rt:282:13
+tell-requires-2 : tie.Need-tell-requires-2 Inv-loop μ-loop
+tell-requires-2 c κs = search needs
+
+-- src/main.rt:283:13
 returns-2 : tie.Need-returns-2 Inv-loop μ-loop
 returns-2 c = search needs
 
--- src/main.rt:283:9
+-- src/main.rt:285:9
 add-agreed : tie.Need-add-agreed Inv-loop μ-loop
 add-agreed c = search needs
 
--- src/main.rt:284:9
+-- src/main.rt:286:9
 add-i : tie.Need-add-i Inv-loop μ-loop
 add-i c = search needs
 
@@ -60,9 +68,9 @@ loop-less c = search needs
 loop-again : tie.Need-loop-again Inv-loop μ-loop
 loop-again c = search needs
 
--- src/main.rt:286:5
-tell-requires : tie.Need-tell-requires Inv-loop μ-loop
-tell-requires c κs = search needs
+-- src/main.rt:288:5
+tell-requires-3 : tie.Need-tell-requires-3 Inv-loop μ-loop
+tell-requires-3 c κs = search needs
 
 -- src/main.rt:271:1
 returns-3 : tie.Need-returns-3 Inv-loop μ-loop
@@ -78,12 +86,14 @@ main-spec =
     loop-holds
     sub-if1
     say-rest-requires
+    tell-requires
     returns
     replay-list-requires
+    tell-requires-2
     returns-2
     add-agreed
     add-i
     loop-less
     loop-again
-    tell-requires
+    tell-requires-3
     returns-3)

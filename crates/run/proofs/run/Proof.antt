@@ -1,5 +1,5 @@
 -- `run::run` meets its contract: each need by its law.
-use Rattle.step.specs.Exported.{checked-long, checked-well}
+use Rattle.step.specs.Exported.{checked-long, checked-in}
 use Rattle.run.specs.Loop.{ran-refused}
 use borrow.Author.Needs.{needs}
 use Rattle.run.proofs.run.Statement.{statement}
@@ -12,7 +12,7 @@ load-sizes-requires : tie.Need-load-sizes-requires
 load-sizes-requires c κs = checked-long _ (c .before .if1 .taken) (c .before .before .check .ensures)
 
 run-formed-requires : tie.Need-run-formed-requires
-run-formed-requires c κs = search checked-well
+run-formed-requires c κs = search checked-in
 
 same-length : tie.Need-same-length
 same-length c = search needs

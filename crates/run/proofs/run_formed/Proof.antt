@@ -4,14 +4,14 @@ use Prim.Native.Nat.{_-_}
 use native.Mathlib.Omega.{arith}
 use lib.ListN.{length}
 use borrow.Author.Needs.{needs}
-use Rattle.outcome.specs.Stepped.{Well}
+use Rattle.step.specs.After.{WellIn}
 use Rattle.run.specs.Steps.{Whole, end-none, end-some}
 use Rattle.run.specs.Loop.{Reached, SoFar, reached-start, so-far-start, ran-ended, ran-full, reached-more, so-far-more}
 use Rattle.run.proofs.run_formed.Statement.{statement}
 use Rattle.run.proofs.run_formed.Tie as tie
 
 abbrev Inv-loop : tie.InvT-loop
-Inv-loop s₀ z steps answers₀ at₀ k₀ n₀ s answers at k n = Well z s × (length s ≡ length s₀) × Reached steps answers₀ answers at k n × SoFar steps s₀ s answers₀ answers at k n
+Inv-loop s₀ z steps answers₀ at₀ k₀ n₀ s answers at k n = WellIn z s × (length s ≡ length s₀) × Reached steps answers₀ answers at k n × SoFar steps s₀ s answers₀ answers at k n
 
 abbrev μ-loop : tie.MeasureT-loop
 μ-loop s₀ z steps answers₀ at₀ k₀ n₀ s answers at k n = length answers - k

@@ -28,16 +28,26 @@ kin-ok-requires c κs =
 returns-3 : tie.Need-returns-3
 returns-3 c = λ f. failed (c .before .kin-ok .result) (c .before .kin-ok .ensures) (c .if3 .taken) (facts-kin f)
 
+idle-ok-requires : tie.Need-idle-ok-requires
+idle-ok-requires c κs = search needs
+
+returns-4 : tie.Need-returns-4
+returns-4 c = λ f. failed (c .before .idle-ok .result) (c .before .idle-ok .ensures) (c .if4 .taken) (f .idle)
+
 index-ok-requires : tie.Need-index-ok-requires
 index-ok-requires c κs = search needs
 
-returns-4 : tie.Need-returns-4
-returns-4 c =
+returns-5 : tie.Need-returns-5
+returns-5 c =
+    let idled = c .before .before in
+    let kinned = idled .before .before in
+    let queued = kinned .before .before in
     decides-as (c .index-ok .result)
     (facts-all
-    (passed (c .before .before .before .before .before .before .processes-ok .result) (c .before .before .before .before .before .before .processes-ok .ensures) (c .before .before .before .before .before .if1 .left))
-    (passed (c .before .before .before .before .queues-ok .result) (c .before .before .before .before .queues-ok .ensures) (c .before .before .before .if2 .left))
-    (passed (c .before .before .kin-ok .result) (c .before .before .kin-ok .ensures) (c .before .if3 .left)))
+    (passed (queued .before .before .processes-ok .result) (queued .before .before .processes-ok .ensures) (queued .before .if1 .left))
+    (passed (queued .queues-ok .result) (queued .queues-ok .ensures) (kinned .before .if2 .left))
+    (passed (kinned .kin-ok .result) (kinned .kin-ok .ensures) (idled .before .if3 .left))
+    (passed (idled .idle-ok .result) (idled .idle-ok .ensures) (c .before .if4 .left)))
     (λ f. f .index)
     (c .index-ok .ensures)
 
@@ -51,5 +61,7 @@ facts-ok-spec =
     returns-2
     kin-ok-requires
     returns-3
+    idle-ok-requires
+    returns-4
     index-ok-requires
-    returns-4)
+    returns-5)
