@@ -4,7 +4,7 @@
 #   2. on each fixed list in lists/ the definition computes the kept listing, and every answer and number arises in one of them;
 #   3. demand 3, as it is stated, does not hold of wrong machines;
 #   4. the operations on the lent state do in small scenarios what 01 says, interpreted and compiled;
-#   5. the program `steps` prints on each fixed list the kept listing (`replay`), and takes long lines, any bytes and any cut of its input;
+#   5. the code gives on each fixed list the kept listing (`replay`), and the program `steps` takes long lines, any bytes and any cut of its input;
 #   6. where the Rust is at hand (the folder R9_SRC, from the repository's top, by default ../shared/docs/src/port/src): the kept
 #      listings are what the Rust gives today, they hold every step with each number that it can meet, the definition and the
 #      Rust give the same on lists that are not kept, made here, `exit_message`, as C callers have it, and the Rust the same messages, and

@@ -1,7 +1,7 @@
 #!/usr/bin/env bash
 # lists/pieces.sh: the program `steps` on its standard input, however that comes: each fixed list of its sizes, whole and a byte at a time;
-# nothing at all; lines that are too long, before others and at the end; a last line without its end. Where the oracle is built, also
-# generated lists and random bytes, against the listing that the Rust gives.
+# nothing at all; lines that are too long, before others and at the end; a last line without its end; reads and writes that are cut short. Where the
+# oracle is built, also generated lists and random bytes, against the listing that the Rust gives.
 set -euo pipefail
 cd "$(dirname "$0")/.."
 fail() { echo "lists/pieces.sh: $1" >&2; exit 1; }
@@ -35,6 +35,22 @@ says "$work/open" '1;pid 1;0;1;0;0' '2;refused 2;0;1;0;0' '3;pid 2;0;1,2;0;0'
 if [ -c /dev/full ]; then
   $steps <lists/001-listing-example.steps >/dev/full 2>"$work/said"
   [ -s "$work/said" ] || fail "steps says nothing of a write that failed"
+fi
+
+# writes and reads that are cut short: where gcc is installed, by functions in front of the C library's that take at most 1,000 bytes and 7
+if command -v gcc >/dev/null 2>&1; then
+  cat >"$work/short.c" <<'END'
+#include <sys/syscall.h>
+#include <sys/types.h>
+#include <unistd.h>
+ssize_t write(int fd, const void *from, size_t n) { return syscall(SYS_write, fd, from, n < 1000 ? n : 1000); }
+ssize_t read(int fd, void *to, size_t n) { return syscall(SYS_read, fd, to, n < 7 ? n : 7); }
+END
+  gcc -shared -fPIC -O1 -o "$work/short.so" "$work/short.c"
+  for _ in {1..40}; do cat lists/001-listing-example.steps; done >"$work/again"
+  $steps <"$work/again" >"$work/whole"
+  [ "$(wc -c <"$work/whole")" -gt 2000 ] || fail "too short to be cut"
+  LD_PRELOAD="$PWD/$work/short.so" $steps <"$work/again" | cmp -s - "$work/whole" || fail "another listing where reads and writes are cut short"
 fi
 
 if [ -x "$oracle" ]; then

@@ -58,8 +58,8 @@ const WRONG: [Wrong; 22] = [
 ];
 
 /// The same of what the machine has no use for, and no comparison with r9 finds;
-/// the last five are left over.
-const UNUSED: [Wrong; 20] = [
+/// the last eleven are left over.
+const UNUSED: [Wrong; 25] = [
     ("a free record's name", true, |e| e.flip(NAME_BYTE, 27)),
     ("a free record's parent", true, |e| e.flip(PARENT, 0)),
     ("a free record's call", true, |e| e.flip(RESUME_KIND, 0)),
@@ -68,7 +68,6 @@ const UNUSED: [Wrong; 20] = [
     ("a free cell's message", true, |e| e.flip(MESSAGE_BYTE, 0)),
     ("a byte behind a message", true, |e| e.flip(MESSAGE_BYTE, e.behind_message(e.z.c - 1))),
     ("the deadline of a timer not queued", true, |e| e.flip(DEADLINE, 3)),
-    ("the link of a timer not queued", true, |e| e.flip(TIMER_NEXT, 0)),
     ("the period of a process's timer", true, |e| e.flip(PERIOD, e.z.k)),
     ("the Rendez of a queued process's timer", true, |e| e.flip(TIMER_RENDEZ, e.timer(6))),
     ("the Rendez of timer 0", true, |e| e.flip(TIMER_RENDEZ, 0)),
@@ -80,6 +79,12 @@ const UNUSED: [Wrong; 20] = [
     ("the object of no call", false, |e| e.flip(RESUME_OBJECT, e.record(1))),
     ("the condition of a qlock", false, |e| e.flip(RESUME_CONDITION, e.record(2))),
     ("the link of who has no parent", false, |e| e.flip(PARENT_AT, e.record(2))),
+    ("the older of a free record", false, |e| e.flip(OLDER, 0)),
+    ("the younger of a free record", false, |e| e.flip(YOUNGER, 0)),
+    ("the exits of a free record", false, |e| e.flip(EXITS, 0)),
+    ("the count of a free record's exits", false, |e| e.flip(NEXITS, 0)),
+    ("the link of a free cell", false, |e| e.flip(CELL_NEXT, 0)),
+    ("the link of a timer not queued", false, |e| e.flip(TIMER_NEXT, 0)),
 ];
 
 /// What a step frees, with some bits of a number in it flipped.
@@ -88,14 +93,20 @@ type Freed = (&'static str, fn(&mut Edited, u64));
 const FREED: [Freed; 4] = [
     ("a freed record's name", |e, bits| {
         let record = e.record(12);
-        e.free(&[(PID, record), (STATE_OF, record)], (NAME_BYTE, 28 * record), bits);
+        let fields = [PID, STATE_OF, OLDER, YOUNGER].map(|field| (field, record));
+        e.free(&fields, (NAME_BYTE, 28 * record), bits);
     }),
-    ("a freed cell's pid", |e, bits| e.free(&[(OWNER, e.z.c - 1)], (EXIT_PID, e.z.c - 1), bits)),
-    ("a cleared cell's link", |e, bits| {
+    ("a freed cell's pid", |e, bits| {
         let cell = e.z.c - 1;
-        e.free(&[(OWNER, cell), (EXIT_PID, cell), (MESSAGE_LENGTH, cell)], (CELL_NEXT, cell), bits);
+        e.free(&[(OWNER, cell), (CELL_NEXT, cell)], (EXIT_PID, cell), bits);
     }),
-    ("the deadline of a timer taken off", |e, bits| e.free(&[(IS_QUEUED, 1)], (DEADLINE, 1), bits)),
+    ("a freed cell's link", |e, bits| {
+        let cell = e.z.c - 1;
+        e.free(&[(OWNER, cell), (CELL_NEXT, cell)], (CELL_NEXT, cell), bits);
+    }),
+    ("the deadline of a timer taken off", |e, bits| {
+        e.free(&[(IS_QUEUED, 1), (TIMER_NEXT, 1)], (DEADLINE, 1), bits);
+    }),
 ];
 
 struct Edited {

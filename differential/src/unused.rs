@@ -1,5 +1,5 @@
 //! What of a state's bytes the machine has no use for, read by docs/STATE.md.
-//! A step leaves it as it was, and in what it frees only what was there, or 0.
+//! A step leaves as it was whatever has no use after it.
 
 use oracle::random::Random;
 use outside::layout::{Region::*, *};
@@ -33,10 +33,11 @@ impl State<'_> {
     /// name.
     fn is_used(self, field: Field, i: usize) -> bool {
         match field {
-            PID | STATE_OF | NEXT | IS_QUEUED | OWNER => true,
+            PID | STATE_OF | NEXT | OLDER | YOUNGER | EXITS | NEXITS => true,
+            IS_QUEUED | TIMER_NEXT | OWNER | CELL_NEXT => true,
             PARENT_AT => self.is_living(i) && !self.is_orphan(i),
             NAME_BYTE => self.is_living(i / NAME),
-            DEADLINE | TIMER_NEXT => self.get(IS_QUEUED, i) == 1,
+            DEADLINE => self.get(IS_QUEUED, i) == 1,
             PERIOD => i < self.z.k,
             TIMER_RENDEZ => 0 < i && i < self.z.k,
             MESSAGE_BYTE => {
@@ -65,8 +66,8 @@ impl State<'_> {
         parent != 0 && (0..self.z.p).all(|i| self.get(PID, i) != parent)
     }
 
-    /// Rules 7 and 11: 0 is in what a record's place, call and parent have no
-    /// use for.
+    /// Rules 7, 11 and 12: 0 is in what a record's place, call and parent have
+    /// no use for, and in what links a free one.
     fn has_nothing_left_over(self, record: usize) -> Result<(), String> {
         let of = |field| self.get(field, record);
         let (state, call) = (of(STATE_OF), of(RESUME_KIND));
@@ -76,13 +77,31 @@ impl State<'_> {
             (RESUME_OBJECT, is_living && ![SLEEP, TSLEEP, QLOCK].contains(&call)),
             (RESUME_CONDITION, is_living && ![SLEEP, TSLEEP].contains(&call)),
             (PARENT_AT, is_living && of(PARENT) == 0),
+            (OLDER, !is_living),
+            (YOUNGER, !is_living),
+            (EXITS, !is_living),
+            (NEXITS, !is_living),
         ];
-        match must_be_zero.iter().find(|(field, must)| *must && of(*field) != 0) {
-            None => Ok(()),
-            Some((field, _)) => {
-                let (place, value) = (locate(self.z, field.at(self.z, record)), of(*field));
+        must_be_zero.iter().try_for_each(|&(field, must)| self.is_zero(field, record, must))
+    }
+
+    /// Rule 12: 0 is in the link of a free cell and of a timer that is not queued.
+    fn has_no_link_left_over(self, region: Region, i: usize) -> Result<(), String> {
+        match region {
+            Cell => self.is_zero(CELL_NEXT, i, !self.is_taken(i)),
+            Timer | TimerLink => self.is_zero(TIMER_NEXT, i, self.get(IS_QUEUED, i) == 0),
+            _ => Ok(()),
+        }
+    }
+
+    /// Where a field must be 0 it is.
+    fn is_zero(self, field: Field, i: usize, must: bool) -> Result<(), String> {
+        match self.get(field, i) {
+            value if must && value != 0 => {
+                let place = locate(self.z, field.at(self.z, i));
                 Err(format!("{value} is left over in {place}"))
             }
+            _ => Ok(()),
         }
     }
 }
@@ -164,13 +183,13 @@ impl Before {
             (State { bytes: &self.bytes, z: self.z }, State { bytes: now, z: self.z });
         let (region, i, within) = position(self.z, at);
         let place = || locate(self.z, at);
+        now.has_no_link_left_over(region, i)?;
         let Some(field) = field_of(region, within) else {
             return Err(format!("{} is changed", place()));
         };
         let (was, is) = (before.get(field, i), now.get(field, i));
         match (before.is_used(field, i), now.is_used(field, i)) {
             (_, true) => Ok(()),
-            (true, false) if is == 0 => Ok(()),
             (true, false) => Err(format!("{} is used no more: was {was}, is {is}", place())),
             (false, false) => Err(format!("{} is not used: was {was}, is {is}", place())),
         }

@@ -51,6 +51,13 @@ struct Subject {
 }
 
 impl Subject {
+    /// Makes a change in the state and in its copies.
+    fn keep(&mut self, edit: &damage::Edit) {
+        for bytes in [&mut self.base, &mut self.lent, &mut self.twin] {
+            put(bytes, edit.at, edit.width, edit.value);
+        }
+    }
+
     /// Writes a machine; some states have bytes after them.
     fn new(machine: Machine, rng: &mut Random) -> Subject {
         let rest = if rng.percent(15) { Rest::Zero } else { Rest::Of(rng.bits()) };
@@ -188,11 +195,7 @@ fn walk(t: &mut Trial, s: &mut Subject, steps: usize, rng: &mut Random) {
         let mut damage = damage::any_field(&s.base(), rng);
         damage.kind = "walk";
         if s.damaged(t, &damage) {
-            for edit in &damage.edits {
-                for bytes in [&mut s.base, &mut s.lent, &mut s.twin] {
-                    put(bytes, edit.at, edit.width, edit.value);
-                }
-            }
+            damage.edits.iter().for_each(|edit| s.keep(edit));
             match decode(&s.base) {
                 Some(machine) => s.machine = machine,
                 None => t.fault("walk: a well-formed state cannot be read".to_string()),

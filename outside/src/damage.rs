@@ -71,6 +71,11 @@ impl Base<'_> {
         self.machine.timers.iter().map(|&(t, _)| t).collect()
     }
 
+    pub fn not_queued(&self) -> Vec<usize> {
+        let queued = self.queued();
+        (0..self.z.k + self.z.p).filter(|t| !queued.contains(t)).collect()
+    }
+
     pub fn locks_such(&self, waiters: usize) -> Vec<usize> {
         (0..self.z.q).filter(|&q| self.machine.locks[q].waiters.len() >= waiters).collect()
     }

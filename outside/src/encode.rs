@@ -82,9 +82,10 @@ fn put_records(w: &mut Writer, m: &Machine) {
     for (i, record) in m.records.iter().enumerate() {
         match record {
             None => {
-                w.set(PID, i, 0);
-                w.set(STATE_OF, i, 0);
-                w.set(NEXT, i, 0);
+                // Rules 4, 11 and 12.
+                for f in [PID, STATE_OF, NEXT, OLDER, YOUNGER, EXITS, NEXITS] {
+                    w.set(f, i, 0);
+                }
             }
             Some(p) => put_process(w, i, p),
         }
@@ -199,6 +200,7 @@ fn put_timers(w: &mut Writer, m: &Machine) {
     }
     for t in 0..m.z.k + m.z.p {
         w.set(IS_QUEUED, t, 0);
+        w.set(TIMER_NEXT, t, 0);
     }
     w.set(TIMER_HEAD, 0, link(m.timers.front().map(|&(t, _)| t)));
     for (n, &(t, deadline)) in m.timers.iter().enumerate() {
@@ -211,6 +213,7 @@ fn put_timers(w: &mut Writer, m: &Machine) {
 fn put_cells(w: &mut Writer, m: &Machine) {
     for c in 0..m.z.c {
         w.set(OWNER, c, 0);
+        w.set(CELL_NEXT, c, 0);
     }
     for i in m.living() {
         let exits = &m.process(i).exits;

@@ -79,10 +79,13 @@ fn owners_exchanged(b: &Base, rng: &mut Random) -> Option<Vec<Edit>> {
     Some(b.exchange((OWNER, c), (OWNER, d)))
 }
 
-/// A used cell's owner goes to a free cell.
+/// A used cell's owner goes to a free cell, its link or not.
 fn owner_moved(b: &Base, rng: &mut Random) -> Option<Vec<Edit>> {
     let (used, free) = (rng.any(&b.used_cells())?, rng.any(&b.machine.free_cells())?);
-    Some(b.exchange((OWNER, used), (OWNER, free)))
+    let mut edits = b.exchange((OWNER, used), (OWNER, free));
+    edits.extend(b.exchange((CELL_NEXT, used), (CELL_NEXT, free)));
+    drop_some(&mut edits, rng);
+    Some(edits)
 }
 
 /// The pids of two that follow each other by age.
@@ -143,9 +146,7 @@ fn deadlines_exchanged(b: &Base, rng: &mut Random) -> Option<Vec<Edit>> {
 
 /// One timer's mark taken, one's given.
 fn is_queued_moved(b: &Base, rng: &mut Random) -> Option<Vec<Edit>> {
-    let queued = b.queued();
-    let others: Vec<usize> = (0..b.z.k + b.z.p).filter(|t| !queued.contains(t)).collect();
-    let (t, u) = (rng.any(&queued)?, rng.any(&others)?);
+    let (t, u) = (rng.any(&b.queued())?, rng.any(&b.not_queued())?);
     Some(b.exchange((IS_QUEUED, t), (IS_QUEUED, u)))
 }
 
@@ -273,6 +274,7 @@ fn head_lost(b: &Base, rng: &mut Random) -> Option<Vec<Edit>> {
         ways.push(vec![
             b.edit(TIMER_HEAD, 0, b.get(TIMER_NEXT, t)),
             b.edit(IS_QUEUED, t, rng.up_to(1)),
+            b.edit(TIMER_NEXT, t, 0),
         ]);
     }
     if let Some(i) = rng.any(&b.living_such(|i| !b.machine.process(i).exits.is_empty())) {
@@ -282,6 +284,7 @@ fn head_lost(b: &Base, rng: &mut Random) -> Option<Vec<Edit>> {
             b.edit(EXITS, i, b.get(CELL_NEXT, c)),
             b.edit(NEXITS, i, fewer),
             b.edit(OWNER, c, 0),
+            b.edit(CELL_NEXT, c, 0),
         ]);
     }
     let way = rng.below(ways.len().max(1));
@@ -387,12 +390,14 @@ fn free_in_a_place(b: &Base, rng: &mut Random) -> Option<Vec<Edit>> {
     if taken { None } else { Some(edits) }
 }
 
-/// A free record takes a living one's wait queue.
+/// A free record takes a living one's wait queue, or its cells alone.
 fn wait_queue_of_the_free(b: &Base, rng: &mut Random) -> Option<Vec<Edit>> {
     let i = rng.any(&b.living_such(|i| !b.machine.process(i).exits.is_empty()))?;
     let j = rng.any(&b.machine.free())?;
-    let mut edits = vec![b.edit(EXITS, j, b.get(EXITS, i)), b.edit(NEXITS, j, b.get(NEXITS, i))];
-    edits.extend([b.edit(EXITS, i, 0), b.edit(NEXITS, i, 0)]);
+    let mut edits = vec![b.edit(EXITS, i, 0), b.edit(NEXITS, i, 0)];
+    if rng.percent(50) {
+        edits.extend([b.edit(EXITS, j, b.get(EXITS, i)), b.edit(NEXITS, j, b.get(NEXITS, i))]);
+    }
     let cells = b.machine.process(i).exits.iter().map(|exit| exit.cell);
     edits.extend(cells.map(|c| b.edit(OWNER, c, j as u64 + 1)));
     Some(edits)
@@ -490,6 +495,24 @@ fn free_next_left_over(b: &Base, rng: &mut Random) -> Option<Vec<Edit>> {
     Some(vec![b.edit(NEXT, i, 1 + rng.below(b.z.p) as u64)])
 }
 
+/// A free record has a neighbour in age, an exit or a count of them.
+fn free_record_left_over(b: &Base, rng: &mut Random) -> Option<Vec<Edit>> {
+    let (f, i) = (rng.of(&[OLDER, YOUNGER, EXITS, NEXITS]), rng.any(&b.machine.free())?);
+    Some(vec![b.edit(f, i, 1 + rng.up_to(f.highest(b.z) - 1))])
+}
+
+/// A free cell has a link.
+fn free_cell_left_over(b: &Base, rng: &mut Random) -> Option<Vec<Edit>> {
+    let c = rng.any(&b.machine.free_cells())?;
+    Some(vec![b.edit(CELL_NEXT, c, 1 + rng.below(b.z.c) as u64)])
+}
+
+/// A timer that is not queued has a link.
+fn timer_left_over(b: &Base, rng: &mut Random) -> Option<Vec<Edit>> {
+    let t = rng.any(&b.not_queued())?;
+    Some(vec![b.edit(TIMER_NEXT, t, 1 + rng.below(b.z.k + b.z.p) as u64)])
+}
+
 /// Somebody without a parent names the record of one.
 fn parent_left_over(b: &Base, rng: &mut Random) -> Option<Vec<Edit>> {
     let i = rng.any(&b.living_such(|i| b.get(PARENT, i) == 0))?;
@@ -534,6 +557,9 @@ const LINKS: &[(&str, Pair)] = &[
     ("left over: parentAt", parent_left_over),
     ("left over: resumeObject", object_left_over),
     ("left over: resumeCondition", condition_left_over),
+    ("left over: in a free record", free_record_left_over),
+    ("left over: in a free cell", free_cell_left_over),
+    ("left over: in a timer", timer_left_over),
     ("free: call", free_left_over),
     ("pair: same field exchanged", same_field_exchanged),
     ("pair: field of living exchanged", living_exchanged),

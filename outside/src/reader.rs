@@ -17,7 +17,7 @@ const fn rule(name: &'static str, holds: fn(&State) -> bool) -> Rule {
 }
 
 /// The rules, after the first two: those need no state in range.
-const RULES: [Rule; 37] = [
+const RULES: [Rule; 40] = [
     rule("rule 2: mark", mark),
     rule("rule 3: run queue", run_queue),
     rule("rule 3: lock queues", lock_queues),
@@ -39,6 +39,9 @@ const RULES: [Rule; 37] = [
     rule("rule 11: next", next_of_the_unqueued),
     rule("rule 11: resumeObject", object_of_no_call),
     rule("rule 11: resumeCondition", condition_of_no_sleep),
+    rule("rule 12: free records", free_records),
+    rule("rule 12: free cells", free_cells),
+    rule("rule 12: timers not queued", timers_not_queued),
     rule("01: last NOW in range", last_now_in_range),
     rule("01: next pid in range", next_pid_in_range),
     rule("01: objects of calls in range", objects_in_range),
@@ -459,8 +462,8 @@ fn full_words(s: &State) -> bool {
     (0..16).all(|v| s.kept.get(FULL_CELL_WORDS, v) == word_of(v, 1_016, full))
 }
 
-/// Rule 8: "and bit v of `fullCells` exactly where full word v is (bits 16 and
-/// above are 0)."
+/// Rule 8: "and bit v of `fullCells` exactly where full word v is. Bits for which
+/// there is no word are 0."
 fn full_cells(s: &State) -> bool {
     let full = |v: usize| s.kept.get(FULL_CELL_WORDS, v) == u64::MAX;
     s.kept.header(FULL_CELLS) == word_of(0, 16, full)
@@ -482,6 +485,22 @@ fn object_of_no_call(s: &State) -> bool {
 /// Rule 11: "`resumeCondition` is 0 unless it is a `sleep` or a `tsleep` (1 or 2)."
 fn condition_of_no_sleep(s: &State) -> bool {
     s.living().all(|i| matches!(s.call(i), SLEEP | TSLEEP) || s.kept.get(RESUME_CONDITION, i) == 0)
+}
+
+/// Rule 12: "In a free record `older`, `younger`, `exits` and `nexits` are 0."
+fn free_records(s: &State) -> bool {
+    let is_vacant = |i| [OLDER, YOUNGER, EXITS, NEXITS].iter().all(|f| s.kept.get(*f, i) == 0);
+    (0..s.z.p).all(|i| s.used(i) || is_vacant(i))
+}
+
+/// Rule 12: "in a free cell `cellNext` is 0."
+fn free_cells(s: &State) -> bool {
+    (0..s.z.c).all(|c| s.kept.link(OWNER, c).is_some() || s.kept.get(CELL_NEXT, c) == 0)
+}
+
+/// Rule 12: "`timerNext` of a timer that is not queued is 0."
+fn timers_not_queued(s: &State) -> bool {
+    (0..s.z.k + s.z.p).all(|t| s.is_timer_queued(t) || s.kept.get(TIMER_NEXT, t) == 0)
 }
 
 /// 01: "its sizes and fields are in range": a NOW is accepted up to 2^51 − 1.
