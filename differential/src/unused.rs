@@ -1,5 +1,5 @@
 //! What of a state's bytes the machine has no use for, read by docs/STATE.md.
-//! A step leaves as it was whatever has no use after it.
+//! A step leaves as it was whatever the machine has no use for after it.
 
 use oracle::random::Random;
 use outside::layout::{Region::*, *};

@@ -47,7 +47,7 @@ neither false b e = (refl, e)
 pub record Spared (z : Sizes) (m m′ : Memory) : Type 0 where
   pub spared : (f i : ℕ) → used z m f i ≡ 0 → used z m′ f i ≡ 0 → m′ f i ≡ m f i
 
--- What is used in m and no longer in m′ is left over.
+-- What is used in m and no longer in m′ stays, or is 0 where its field is cleared.
 pub record Ceased (z : Sizes) (m m′ : Memory) : Type 0 where
   pub ceased : (f i : ℕ) → 0 < used z m f i → used z m′ f i ≡ 0 → m′ f i ≡ leftover f (m f i)
 

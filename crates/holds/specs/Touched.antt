@@ -24,8 +24,8 @@ use Rattle.holds.specs.Use.{used, EachInUse, kin-same, calm-same, SameUs
 use Rattle.holds.specs.Leftover.{cleared, leftover, idle-kept, Spared, spared-join, Ceased, ceased-join, ceased-lasts, Quiet, quiet-lasts, quiet-calm, lasts-same, Alive}
 use Rattle.holds.specs.Did.{Did, writesIn, WritableIn, spared-stores, writable-join}
 
--- The bytes s became s′ by stores to fields, each in range. What the machine uses neither before nor after stays; what it ceases to use is
--- left over.
+-- The bytes s became s′ by stores to fields, each in range. What the machine uses neither before nor after stays; what it ceases to use stays, or is 0
+-- where its field is cleared (`leftover`).
 pub record Spares (z : Sizes) (s s′ : List ℕ) : Type 0 where
   pub stores : List Write
   pub writable : WritableIn z stores

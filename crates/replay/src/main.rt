@@ -1,6 +1,6 @@
 // Replays lists of steps: the listing that the machine gives for each is compared with the one that is kept.
-// Its arguments come in threes: the sizes as P,R,Q,K,C,HZ; a file of steps; the listing that is kept of it. It ends at the first
-// list that does not agree, at a file that cannot be read whole or at a rest of arguments, and names it.
+// Its arguments come in threes: the sizes as P,R,Q,K,C,HZ; a file of steps; the listing that is kept of it. It ends at the first list that does not
+// agree, at sizes of no state, at a file that cannot be read whole or at a rest of arguments, names it, and says how many agreed.
 use libc::STDOUT_FILENO;
 use listing::Fed;
 use state::Sizes;
