@@ -22,4 +22,3 @@ pub mod CellStores
 pub mod UseCellCode
 pub mod DropCellCode
 pub mod Restored
-pub mod SetBefore
