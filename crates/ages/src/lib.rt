@@ -1,5 +1,7 @@
 // The living processes by age, the oldest first, linked both ways, and the living parent of a process. Links are 0 for none, and i + 1
 // for record i.
+#![tactic(auto)]
+
 ghost use Rattle.state.specs.Fields.{younger, older, oldest, youngest};
 ghost use Rattle.state.specs.Places.{Wrote};
 ghost use Rattle.ages.specs.Ties.{tie_stores, TieAsks};

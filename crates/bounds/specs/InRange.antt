@@ -1,8 +1,7 @@
 -- Every field is in range exactly where each group of columns is: the other fields are as wide as their maxima.
-use Rattle.std.specs.Prelude.{◌≡◌, refl, Bool, true, false, not, List, ℕ, zero, suc, ◌^◌, ◌≤◌, ◌<◌, ltb, get_or}
+use Rattle.std.specs.Prelude.{if◌then◌else◌, ◌≡◌, refl, Bool, true, false, not, List, ℕ, zero, suc, ◌^◌, ◌≤◌, ◌<◌, ltb, get_or}
 use Rattle.std.proofs.Common.{subst, arith, not-suc-le-zero, ltb-true, ltb-false}
 use Rattle.memory.specs.Le.{le, le-bound}
-use Rattle.machine.specs.Basics.{if◌then◌else◌}
 use Rattle.layout.specs.Table.{Slot, slot, count, place}
 use Rattle.layout.specs.Memory.{cell, mem-past, Ranged}
 use Rattle.layout.specs.Writes.{State}

@@ -1,4 +1,6 @@
 // Whether every field of a state is in range.
+#![tactic(auto)]
+
 ghost use Rattle.layout.specs.Table.{slot};
 ghost use Rattle.rules.specs.Code.{Long, Decides};
 ghost use Rattle.bounds.specs.Column.{column, Asks, Tested};

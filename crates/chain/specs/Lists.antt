@@ -1,9 +1,8 @@
 -- Lists of distinct numbers below a bound.
-use Rattle.std.specs.Prelude.{◌≡◌, refl, Bool, true, false, List, [], ◌∷◌, ◌++◌, ℕ, zero, suc, ◌≤◌, ◌<◌, eqb, length}
+use Rattle.std.specs.Prelude.{if◌then◌else◌, ◌≡◌, refl, Bool, true, false, List, [], ◌∷◌, ◌++◌, ℕ, zero, suc, ◌≤◌, ◌<◌, eqb, length}
 use Rattle.std.proofs.Common.{sym, subst, arith, not-suc-le-zero, eqb-true, ne_eqb}
 use Rattle.std.proofs.lemmas.Bool.{eqb-false}
 use Rattle.machine.specs.Good.{Each}
-use Rattle.machine.specs.Basics.{if◌then◌else◌}
 
 abbrev pub Below : ℕ → List ℕ → Type 0
 Below n = Each (λ x. x < n)

@@ -1,7 +1,6 @@
 -- Insertion into a list ordered by a key.
-use Rattle.std.specs.Prelude.{◌≡◌, refl, Bool, true, false, List, [], ◌∷◌, ◌++◌, ◌⊎◌, ℕ, zero, suc, ◌≤◌, ◌<◌, ltb}
+use Rattle.std.specs.Prelude.{if◌then◌else◌, ◌≡◌, refl, Bool, true, false, List, [], ◌∷◌, ◌++◌, ◌⊎◌, ℕ, zero, suc, ◌≤◌, ◌<◌, ltb}
 use Rattle.std.proofs.Common.{ap, subst, inl, inr, ⊎_elim, arith, ltb-true, ltb-false}
-use Rattle.machine.specs.Basics.{if◌then◌else◌}
 use Rattle.layout.specs.Memory.{alter}
 use Rattle.machine.specs.Good.{Each}
 use Rattle.chain.specs.Lists.{Below, Absent, all_map}

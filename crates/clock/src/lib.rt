@@ -1,5 +1,7 @@
 // Durations, and how many counts of a clock they take.
 // No function asks anything of its arguments: a duration that is not valid has its length in time too.
+#![tactic(auto)]
+
 ghost use Rattle.std.specs.Prelude.{◌≡◌};
 ghost use Rattle.clock.specs.Counts.{counts_of, valid_duration, zero_duration, shorter};
 
@@ -10,7 +12,7 @@ const SECOND: u64 = 1_000_000_000;
 const MOST: u64 = 18_446_744_073_709_551_615;
 
 // A length of time: seconds and nanoseconds.
-#[derive(Drop)]
+#[derive(Clone, Copy)]
 pub struct Duration {
     pub secs: u64,
     pub nanos: u32,

@@ -1,4 +1,6 @@
 // Ticks, readings of the clock, what timers do, quanta and conditions on the lent state.
+#![tactic(auto)]
+
 ghost use Rattle.std.specs.Prelude.{◌≡◌};
 ghost use Rattle.lists.specs.Lists.{bit};
 ghost use Rattle.machine.specs.Update.{with_last_now, with_setting, with_condition};

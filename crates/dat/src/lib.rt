@@ -1,4 +1,6 @@
 // The places of processes in the lent state: the run queue, who runs, Rendez and the own waitr.
+#![tactic(auto)]
+
 ghost use Rattle.state.specs.Places.{Wrote};
 ghost use Rattle.rules.specs.Code.{Long};
 ghost use Rattle.dat.specs.Run.{RunLoaded, run_stores, ReadyAsks, Readied, NextAsks, NextTaken};

@@ -1,9 +1,9 @@
 -- How long the bytes of each kind of step are.
-use Rattle.std.specs.Prelude.{◌≡◌, refl, Bool, true, false, ◌&&◌, List, [], ◌∷◌, ℕ, ◌+◌, ◌*◌, ◌<◌, T, eqb, leb, ltb, length, get_or, drop}
+use Rattle.std.specs.Prelude.{if◌then◌else◌, ◌≡◌, refl, Bool, true, false, ◌&&◌, List, [], ◌∷◌, ℕ, ◌+◌, ◌*◌, ◌<◌, T, eqb, leb, ltb, length, get_or, drop}
 use Rattle.std.proofs.Common.{sym, ◌∙◌, arith, ne_eqb, ltb→lt}
 use Rattle.std.proofs.Math.Option.{Option, none, some}
 use Rattle.memory.specs.Le.{le}
-use Rattle.machine.specs.Basics.{if◌then◌else◌, all}
+use Rattle.machine.specs.Basics.{all}
 use Rattle.machine.specs.Step.{Body, Form, takes_numbers, takes_bytes, Kind, kinds, fill}
 use Rattle.machine.specs.Bytes.{numbers_at, decode_form, decode_body}
 

@@ -1,4 +1,6 @@
 // Step bytes to a step.
+#![tactic(auto)]
+
 ghost use Rattle.std.specs.Prelude.{◌≡◌};
 ghost use Rattle.machine.specs.Step.{kinds};
 ghost use Rattle.decode.specs.Fitting.{fields_for, Fits, Fitted};
@@ -6,7 +8,7 @@ ghost use Rattle.decode.specs.Reads.{Behind, Number, TsleepRead, TaddRead, LowAs
 ghost use Rattle.decode.specs.Decodes.{Decodes};
 
 // What a `tsleep` asks.
-#[derive(Drop)]
+#[derive(Clone, Copy)]
 pub struct TsleepFields {
     pub rendez: u64,
     pub condition: u64,
@@ -16,7 +18,7 @@ pub struct TsleepFields {
 }
 
 // What a `tadd` asks.
-#[derive(Drop)]
+#[derive(Clone, Copy)]
 pub struct TaddFields {
     pub timer: u64,
     pub kind: u64,
@@ -27,7 +29,7 @@ pub struct TaddFields {
 }
 
 // What a step asks; `None` where the bytes are no step. A byte string is the bytes from 6 on, as many as `length` says.
-#[derive(Drop)]
+#[derive(Clone, Copy)]
 pub enum Call {
     None,
     Start { how: u64 },
@@ -52,7 +54,7 @@ pub enum Call {
 }
 
 // A step, and whether it is marked as taken in interrupt context.
-#[derive(Drop)]
+#[derive(Clone, Copy)]
 pub struct Decoded {
     pub marked: bool,
     pub call: Call,

@@ -1,9 +1,8 @@
 -- Two memories of one machine hold the same wherever the machine uses it: field by field.
-use Rattle.std.specs.Prelude.{◌≡◌, Bool, ℕ, ◌-◌, ◌/◌, ◌%◌, ◌<◌}
+use Rattle.std.specs.Prelude.{if◌then◌else◌, ◌≡◌, Bool, ℕ, ◌-◌, ◌/◌, ◌%◌, ◌<◌}
 use Rattle.std.proofs.Math.Path.{refl, sym}
 use Rattle.std.proofs.Common.{◌∙◌, arith}
 use Rattle.std.proofs.Math.Bool.{true, false}
-use Rattle.machine.specs.Basics.{if◌then◌else◌}
 use Rattle.machine.specs.Machine.{Sizes}
 use Rattle.layout.specs.Memory.{Memory}
 use Rattle.state.specs.Fields as fields

@@ -1,10 +1,9 @@
 -- Which places the machine uses is the same in two memories of one machine.
-use Rattle.std.specs.Prelude.{◌≡◌, Bool, ◌||◌, ℕ, ◌-◌, ◌/◌, ◌%◌, ◌<◌, ltb}
+use Rattle.std.specs.Prelude.{if◌then◌else◌, ◌≡◌, Bool, ◌||◌, ℕ, ◌-◌, ◌/◌, ◌%◌, ◌<◌, ltb}
 use Rattle.std.proofs.Math.Path.{refl}
 use Rattle.std.proofs.Common.{sym, ap, ◌∙◌, arith, ltb-true, ltb-false}
 use Rattle.std.proofs.Math.Bool.{true, false}
 use Rattle.std.proofs.Math.Dec.{eqb}
-use Rattle.machine.specs.Basics.{if◌then◌else◌}
 use Rattle.machine.specs.Machine.{Sizes}
 use Rattle.layout.specs.Memory.{Memory}
 use Rattle.state.specs.Fields as fields

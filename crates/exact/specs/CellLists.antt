@@ -1,7 +1,7 @@
 -- The cells of the living: lists that are apart, since each cell names its owner.
-use Rattle.std.specs.Prelude.{◌≡◌, refl, Bool, true, false, List, [], map, ℕ, suc, ◌-◌, ◌≤◌, length}
+use Rattle.std.specs.Prelude.{if◌then◌else◌, ◌≡◌, refl, Bool, true, false, List, [], map, ℕ, suc, ◌-◌, ◌≤◌, length}
 use Rattle.std.proofs.Common.{sym, ap, ◌∙◌, arith}
-use Rattle.machine.specs.Basics.{if◌then◌else◌, count}
+use Rattle.machine.specs.Basics.{count}
 use Rattle.machine.specs.Machine.{Sizes, Process, Exit, free}
 use Rattle.machine.specs.Good.{Each}
 use Rattle.machine.specs.Exits.{cells_used}

@@ -1,8 +1,7 @@
 -- Words made of bits: a word with one bit more, and when a word is full.
-use Rattle.std.specs.Prelude.{◌≡◌, refl, Bool, true, false, ℕ, zero, suc, ◌+◌, ◌^◌, ◌<◌, eqb}
+use Rattle.std.specs.Prelude.{if◌then◌else◌, ◌≡◌, refl, Bool, true, false, ℕ, zero, suc, ◌+◌, ◌^◌, ◌<◌, eqb}
 use Rattle.std.proofs.Common.{sym, arith, eqb-true}
 use Rattle.std.proofs.lemmas.Bool.{eqb-false}
-use Rattle.machine.specs.Basics.{if◌then◌else◌}
 use Rattle.state.specs.WellFormed.{bits}
 
 -- n bits make a number below 2 to the n.

@@ -1,10 +1,10 @@
 -- The highest free number, and the machine's free record.
-use Rattle.std.specs.Prelude.{◌≡◌, refl, Bool, true, false, not, ◌&&◌, ℕ, zero, suc, ◌-◌, ◌<◌, eqb, ltb, get_or}
+use Rattle.std.specs.Prelude.{if◌then◌else◌, ◌≡◌, refl, Bool, true, false, not, ◌&&◌, ℕ, zero, suc, ◌-◌, ◌<◌, eqb, ltb, get_or}
 use Rattle.std.proofs.Common.{sym, arith, eqb-true, ltb-true, lt-ltb}
 use Rattle.std.proofs.Math.Option.{Option, some}
 use Rattle.std.proofs.lemmas.Bool.{not-true, not-false}
 use Rattle.lists.specs.Lists.{highest-some}
-use Rattle.machine.specs.Basics.{if◌then◌else◌, highest_below}
+use Rattle.machine.specs.Basics.{highest_below}
 use Rattle.machine.specs.Machine.{Sizes, free, process, living}
 use Rattle.machine.specs.Exits.{free_record}
 use Rattle.layout.specs.Memory.{Memory}

@@ -1,7 +1,6 @@
 -- What `use_cell` and `drop_cell` do: to the bytes, to the memory, and to the words of the cells in use.
-use Rattle.std.specs.Prelude.{◌≡◌, Bool, ◌&&◌, List, [], ◌∷◌, ℕ, ◌+◌, ◌-◌, ◌^◌, ◌<◌}
+use Rattle.std.specs.Prelude.{if◌then◌else◌, ◌≡◌, Bool, ◌&&◌, List, [], ◌∷◌, ℕ, ◌+◌, ◌-◌, ◌^◌, ◌<◌}
 use Rattle.std.proofs.Common.{arith}
-use Rattle.machine.specs.Basics.{if◌then◌else◌}
 use Rattle.layout.specs.Memory.{Memory, alter, set_field}
 use Rattle.layout.specs.Writes.{Write, to}
 use Rattle.state.specs.Fields as fields

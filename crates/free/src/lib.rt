@@ -1,4 +1,6 @@
 // Which process records and message cells are free, found and marked by words of bits: no function here looks at all records or cells.
+#![tactic(auto)]
+
 ghost use Rattle.std.specs.Prelude.{◌≡◌, ◌-◌};
 ghost use Rattle.state.specs.Fields.{pid, owner};
 ghost use Rattle.state.specs.Places.{mem_in};

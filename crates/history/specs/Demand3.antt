@@ -1,8 +1,8 @@
 -- Demand 3 over a list of steps, as one claim: 01, 'Demand 3 over a list'. `Proof.antt` proves it of every list from every fresh
 -- machine, whatever its sizes; `Tight.antt` gives a stay that meets the tick bound.
-use Rattle.std.specs.Prelude.{◌≡◌, Bool, true, false, List, [], ◌∷◌, ◌++◌, map, ◌⊎◌, ℕ, ◌+◌, ◌*◌, ◌≤◌, ◌<◌, length}
+use Rattle.std.specs.Prelude.{if◌then◌else◌, ◌≡◌, Bool, true, false, List, [], ◌∷◌, ◌++◌, map, ◌⊎◌, ℕ, ◌+◌, ◌*◌, ◌≤◌, ◌<◌, length}
 use Rattle.std.proofs.Math.Option.{Option, none, some}
-use Rattle.machine.specs.Basics.{if◌then◌else◌, count}
+use Rattle.machine.specs.Basics.{count}
 use Rattle.machine.specs.Machine.{Machine, Sizes, fresh, process, sleeper, lock, pid_of, asleep}
 use Rattle.machine.specs.Step.{Body, sched, yield}
 use Rattle.machine.specs.Outcome.{Answer, answer}

@@ -1,10 +1,10 @@
 -- What a well-formed machine tells of its places, and what a step that is not refused tells.
-use Rattle.std.specs.Prelude.{◌≡◌, refl, Bool, true, false, not, List, [], ◌∷◌, ◌++◌, ℕ, zero, suc, ◌+◌, ◌≤◌, ◌<◌, eqb, ltb, length}
+use Rattle.std.specs.Prelude.{if◌then◌else◌, ◌≡◌, refl, Bool, true, false, not, List, [], ◌∷◌, ◌++◌, ℕ, zero, suc, ◌+◌, ◌≤◌, ◌<◌, eqb, ltb, length}
 use Rattle.std.proofs.Common.{sym, ap, ◌∙◌, arith, eqb-true, ltb-true, ltb-false, eq-eqb}
 use Rattle.std.proofs.Math.Option.{none, some}
 use Rattle.std.proofs.lemmas.Bool.{eqb-false}
 use Rattle.std.proofs.Math.ListN.{get_or-eq_default}
-use Rattle.machine.specs.Basics.{if◌then◌else◌, elem, count, highest_below}
+use Rattle.machine.specs.Basics.{elem, count, highest_below}
 use Rattle.machine.specs.Machine.{Machine, Process, free, process, pid_of, living, asleep_on, open_machine}
 use Rattle.machine.specs.Step.{Step}
 use Rattle.machine.specs.Exits.{free_record}

@@ -1,8 +1,8 @@
 -- The locks, `intr`, `exit` and `wait`, and then each input, refused or done: what a machine gives is a change of `View.antt`.
-use Rattle.std.specs.Prelude.{◌≡◌, refl, Bool, true, false, not, ◌&&◌, List, [], ◌∷◌, ◌++◌, ℕ, suc, ◌<◌, eqb, ltb, length}
+use Rattle.std.specs.Prelude.{if◌then◌else◌, ◌≡◌, refl, Bool, true, false, not, ◌&&◌, List, [], ◌∷◌, ◌++◌, ℕ, suc, ◌<◌, eqb, ltb, length}
 use Rattle.std.proofs.Common.{sym, subst, arith, ltb-true, length-set}
 use Rattle.std.proofs.Math.Option.{Option, none, some}
-use Rattle.machine.specs.Basics.{if◌then◌else◌, is_none, is_empty, elem}
+use Rattle.machine.specs.Basics.{is_none, is_empty, elem}
 use Rattle.machine.specs.Machine.{Machine, Process, Lock, in_qlock, in_wait, free, process, lock, pid_of, open_machine}
 use Rattle.machine.specs.Update.{with_next_pid, with_resume, with_on_waitr, with_lock, with_last_now, open_update}
 use Rattle.machine.specs.Step.{Step, Body, start, rfork, name, sched, yield, sleep, tsleep, wakeup, qlock, canqlock, qunlock, cond, clock, tadd, tdel, intr, due, exit, wait, open_step}

@@ -1,9 +1,8 @@
 -- What the history of a list of steps tells, read without any machine: 01, 'Demand 3 over a list'. Places are read from the steps,
 -- their answers, whom each step readies or dispatches, and timer 0's firings.
-use Rattle.std.specs.Prelude.{List, [], ◌∷◌, ◌++◌, ℕ, ◌+◌, eqb, length, drop}
+use Rattle.std.specs.Prelude.{if◌then◌else◌, List, [], ◌∷◌, ◌++◌, ℕ, ◌+◌, eqb, length, drop}
 use Rattle.std.proofs.Math.Option.{Option, none, some}
 use Prim.Native.String.{String}
-use Rattle.machine.specs.Basics.{if◌then◌else◌}
 use Rattle.machine.specs.Machine.{Machine}
 use Rattle.machine.specs.Step.{Step, Body, start, rfork, name, sched, yield, sleep, tsleep, wakeup, qlock, canqlock, qunlock, cond, clock, tadd, tdel, intr, due, exit, wait, word_of}
 use Rattle.machine.specs.Outcome.{Answer, Reply, answer, refused, Outcome}

@@ -1,11 +1,11 @@
 -- Over a list: the places read are the places held, and asleep is their number.
-use Rattle.std.specs.Prelude.{◌≡◌, refl, Bool, true, false, ◌⊎◌, ℕ, ◌≤◌, ◌<◌, eqb}
+use Rattle.std.specs.Prelude.{if◌then◌else◌, ◌≡◌, refl, Bool, true, false, ◌⊎◌, ℕ, ◌≤◌, ◌<◌, eqb}
 use Rattle.std.proofs.Common.{sym, ap, ◌∙◌, subst, inl, inr, arith, eqb-true, eq-eqb, ne_eqb}
 use mathlib.Core.List.{List, [], ◌∷◌, map}
 use Rattle.std.proofs.Math.Option.{Option, none, some}
 use Rattle.std.proofs.lemmas.Bool.{eqb-false}
 use Rattle.std.proofs.Math.ListN.{length-map}
-use Rattle.machine.specs.Basics.{if◌then◌else◌, count}
+use Rattle.machine.specs.Basics.{count}
 use Rattle.machine.specs.Machine.{Machine, Sizes, fresh, pid_of, asleep_on, asleep}
 use Rattle.history.specs.Sound.{Sound}
 use Rattle.history.specs.History.{Input, Event, gives, event_of, history_from, machine_after, Place, absent, running, in_run_queue, on_rendez, on_own_waitr, in_lock_queue, Reading, reads, read_from, blank, place_after, runner_after, queue_after}

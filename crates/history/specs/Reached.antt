@@ -1,8 +1,7 @@
 -- Every machine that a list of inputs reaches from a fresh one keeps the rules; so 14 is never met, and 13 never where C ≥ 128 × P.
-use Rattle.std.specs.Prelude.{◌≡◌, refl, Bool, true, false, List, [], ◌∷◌, ℕ, ◌*◌, ◌≤◌, ltb}
+use Rattle.std.specs.Prelude.{if◌then◌else◌, ◌≡◌, refl, Bool, true, false, List, [], ◌∷◌, ℕ, ◌*◌, ◌≤◌, ltb}
 use Rattle.std.proofs.Common.{◌∙◌, arith}
 use Rattle.std.proofs.Math.Option.{Option, none, some}
-use Rattle.machine.specs.Basics.{if◌then◌else◌}
 use Rattle.machine.specs.Machine.{Machine, Sizes, fresh}
 use Rattle.machine.specs.Step.{Step}
 use Rattle.machine.specs.Outcome.{refused}

@@ -1,12 +1,12 @@
 -- `sched`: the head of the run queue is dispatched, and runs or sleeps again.
 use Rattle.std.proofs.Math.Path.{◌≡◌, refl, ap, subst}
 use Rattle.std.proofs.Common.{sym, ◌∙◌, arith, length-set}
-use Rattle.std.specs.Prelude.{Bool, ◌&&◌, ℕ, ◌+◌, ◌<◌, eqb}
+use Rattle.std.specs.Prelude.{if◌then◌else◌, Bool, ◌&&◌, ℕ, ◌+◌, ◌<◌, eqb}
 use Rattle.std.proofs.Math.Bool.{true, false}
 use mathlib.Core.List.{List, [], ◌∷◌}
 use Rattle.std.proofs.Math.Option.{Option, none, some}
 use Rattle.std.proofs.Math.ListN.{length}
-use Rattle.machine.specs.Basics.{if◌then◌else◌, is_some, is_empty, elem}
+use Rattle.machine.specs.Basics.{is_some, is_empty, elem}
 use Rattle.machine.specs.Machine.{Machine, Process, Exit, Resume, nothing, in_sleep, in_tsleep, in_qlock, in_wait, free, process, sleeper, condition, pid_of, asleep, open_machine}
 use Rattle.machine.specs.Update.{with_process, with_run, with_up, with_quantum_end, with_resume, with_exits, open_update}
 use Rattle.machine.specs.Step.{sched, open_step}

@@ -1,8 +1,8 @@
 -- A well-formed machine holds each process in one place: whoever is held in two is held in one and the same.
-use Rattle.std.specs.Prelude.{◌≡◌, refl, Bool, true, false, List, [], ◌∷◌, ◌++◌, ℕ, zero, suc, ◌+◌, ◌*◌, ◌≤◌, get_or}
+use Rattle.std.specs.Prelude.{if◌then◌else◌, ◌≡◌, refl, Bool, true, false, List, [], ◌∷◌, ◌++◌, ℕ, zero, suc, ◌+◌, ◌*◌, ◌≤◌, get_or}
 use Rattle.std.proofs.Common.{sym, ap, ◌∙◌, subst, zero-add, arith}
 use Rattle.std.proofs.Math.Option.{Option, none, some}
-use Rattle.machine.specs.Basics.{if◌then◌else◌, count, present, numbers_from, concat_map}
+use Rattle.machine.specs.Basics.{count, present, numbers_from, concat_map}
 use Rattle.machine.specs.Machine.{Machine, Process, Lock, free, process, sleeper, lock, asleep_on, open_machine}
 use Rattle.machine.specs.Good.{InOnePlace, running_in}
 use Rattle.history.specs.History.{Place, absent, running, in_run_queue, on_rendez, on_own_waitr, in_lock_queue}

@@ -1,9 +1,9 @@
 -- The places counted by a view: sums over the Rendez and over the locks, and what a change at one of them adds.
-use Rattle.std.specs.Prelude.{◌≡◌, refl, Bool, true, false, not, List, [], ◌∷◌, ℕ, zero, suc, ◌+◌, ◌<◌, eqb, length, get_or}
+use Rattle.std.specs.Prelude.{if◌then◌else◌, ◌≡◌, refl, Bool, true, false, not, List, [], ◌∷◌, ℕ, zero, suc, ◌+◌, ◌<◌, eqb, length, get_or}
 use Rattle.std.proofs.Common.{sym, ap, ◌∙◌, subst, suc-ne-zero, zero-add, arith, ne_eqb}
 use Rattle.std.proofs.Math.Option.{Option, none, some}
 use Rattle.std.proofs.Math.Nat.{suc_inj}
-use Rattle.machine.specs.Basics.{if◌then◌else◌, count, present, numbers_from, concat_map}
+use Rattle.machine.specs.Basics.{count, present, numbers_from, concat_map}
 use Rattle.machine.specs.Machine.{Machine, Process, Lock, free, open_machine}
 use Rattle.machine.specs.Good.{InOnePlace, running_in, places}
 use Rattle.history.specs.History.{at}

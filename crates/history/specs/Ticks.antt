@@ -1,10 +1,10 @@
 -- Ticks: no more than 10 × (k + 1) pass while a process stays in the run queue behind k others.
-use Rattle.std.specs.Prelude.{◌≡◌, Bool, not, List, [], ◌∷◌, ◌++◌, map, ◌⊎◌, ℕ, ◌+◌, ◌≤◌, eqb, leb, ltb, length}
+use Rattle.std.specs.Prelude.{if◌then◌else◌, ◌≡◌, Bool, not, List, [], ◌∷◌, ◌++◌, map, ◌⊎◌, ℕ, ◌+◌, ◌≤◌, eqb, leb, ltb, length}
 use Rattle.std.proofs.Math.Path.{refl}
 use Rattle.std.proofs.Common.{sym, ◌∙◌, subst, inl, inr, arith}
 use Rattle.std.proofs.Math.Bool.{true, false}
 use Rattle.std.proofs.Math.Option.{Option, none, some}
-use Rattle.machine.specs.Basics.{if◌then◌else◌, is_empty}
+use Rattle.machine.specs.Basics.{is_empty}
 use Rattle.machine.specs.Machine.{Machine, Resume, nothing, in_sleep, in_tsleep, in_qlock, in_wait, process, condition, pid_of, asleep}
 use Rattle.machine.specs.Update.{with_process, with_run, with_quantum_end}
 use Rattle.machine.specs.Step.{Step, Body, sched, yield}

@@ -1,9 +1,8 @@
 -- Whatever wakes, wakes only: `wakeup`, a lock handed over, an exit told to the parent, and `interrupt`.
-use Rattle.std.specs.Prelude.{◌≡◌, refl, Bool, true, false, List, [], ◌∷◌, ◌++◌, ℕ, zero, suc, ◌+◌, ◌-◌, ◌<◌, eqb, leb, ltb, length, get_or}
+use Rattle.std.specs.Prelude.{if◌then◌else◌, ◌≡◌, refl, Bool, true, false, List, [], ◌∷◌, ◌++◌, ℕ, zero, suc, ◌+◌, ◌-◌, ◌<◌, eqb, leb, ltb, length, get_or}
 use Rattle.std.proofs.Common.{sym, ap, ◌∙◌, subst, append_assoc, append-nil, arith, ltb-true, ltb-false, length-set}
 use Rattle.std.proofs.Math.Option.{Option, none, some}
 use Rattle.std.proofs.Math.ListN.{get_or-eq_default}
-use Rattle.machine.specs.Basics.{if◌then◌else◌}
 use Rattle.machine.specs.Machine.{Machine, Process, Lock, Queued, Resume, nothing, in_sleep, in_tsleep, in_qlock, in_wait, free, process, sleeper, lock, setting, pid_of, open_machine}
 use Rattle.machine.specs.Update.{with_ticks, with_queued, with_process, with_nchild, with_on_waitr, open_update}
 use Rattle.machine.specs.Places.{Woken, ready, wake, hand_over, open_places}

@@ -1,1 +1,2 @@
 // What a list of steps does: demand 3 (specifications only).
+#![tactic(auto)]

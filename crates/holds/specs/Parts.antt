@@ -1,8 +1,8 @@
 -- What becomes of the machine when one part of the memory changes.
-use Rattle.std.specs.Prelude.{◌≡◌, refl, Bool, true, false, List, [], ◌∷◌, ◌++◌, ℕ, zero, suc, ◌+◌, ◌<◌, length, get_or, set}
+use Rattle.std.specs.Prelude.{if◌then◌else◌, ◌≡◌, refl, Bool, true, false, List, [], ◌∷◌, ◌++◌, ℕ, zero, suc, ◌+◌, ◌<◌, length, get_or, set}
 use Rattle.std.proofs.Common.{ap, arith, not-suc-le-zero, le_of_suc-le-suc}
 use Rattle.std.proofs.Math.Option.{Option, none}
-use Rattle.machine.specs.Basics.{if◌then◌else◌, concat_map, count_that, numbers_from, present}
+use Rattle.machine.specs.Basics.{concat_map, count_that, numbers_from, present}
 use Rattle.machine.specs.Machine.{Machine, Process, Lock, free, process, sleeper, lock, asleep, asleep_on}
 use Rattle.machine.specs.Update.{with_sleeper, with_lock, with_process}
 use Rattle.machine.specs.Good.{running_in}

@@ -1,4 +1,6 @@
 // Whether what is free has nothing: the records, the cells, and the timers that are off the queue.
+#![tactic(auto)]
+
 ghost use Rattle.std.specs.Prelude.{ℕ, ◌+◌, ◌<◌};
 ghost use Rattle.state.specs.Places.{sizes_in};
 ghost use Rattle.rules.specs.Code.{mem_in, Whole, Decides};

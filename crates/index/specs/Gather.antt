@@ -1,8 +1,7 @@
 -- A number made of bits, from the highest down: each turn doubles what there is and adds a bit.
-use Rattle.std.specs.Prelude.{◌≡◌, refl, Bool, true, false, not, ◌&&◌, ℕ, zero, suc, ◌+◌, ◌-◌, ◌*◌, ◌^◌, ◌≤◌, ◌<◌, ltb, eqb}
+use Rattle.std.specs.Prelude.{if◌then◌else◌, ◌≡◌, refl, Bool, true, false, not, ◌&&◌, ℕ, zero, suc, ◌+◌, ◌-◌, ◌*◌, ◌^◌, ◌≤◌, ◌<◌, ltb, eqb}
 use Rattle.std.proofs.Common.{sym, subst, ◌∙◌, arith, mul-add, mul_assoc, mul-one, mul-zero, mul-le-mul_right, pow-suc, lt-ltb, le-ltb, ltb-true, ltb-false}
 use Rattle.std.proofs.Math.Nat.{one-le-pow, pow-le-pow_right}
-use Rattle.machine.specs.Basics.{if◌then◌else◌}
 use Rattle.state.specs.Abs.{is_set}
 use Rattle.state.specs.WellFormed.{bits, in_use}
 

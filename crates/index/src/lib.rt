@@ -1,4 +1,6 @@
 // Whether the words that say which records and cells are in use are right.
+#![tactic(auto)]
+
 ghost use Rattle.std.specs.Prelude.{◌≡◌, true, ◌+◌, ◌*◌, ◌<◌, ◌≤◌};
 ghost use Rattle.layout.specs.Table.{slot};
 ghost use Rattle.state.specs.Fields.{pid, owner};

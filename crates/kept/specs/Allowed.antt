@@ -1,9 +1,9 @@
 -- What a step that is not refused may rely on: each cause of the table that its order tests is false.
-use Rattle.std.specs.Prelude.{◌≡◌, refl, Bool, true, false, not, ◌&&◌, ◌||◌, List, [], ◌∷◌, ℕ, ◌-◌, ◌^◌, ◌≤◌, eqb, ltb}
+use Rattle.std.specs.Prelude.{if◌then◌else◌, ◌≡◌, refl, Bool, true, false, not, ◌&&◌, ◌||◌, List, [], ◌∷◌, ℕ, ◌-◌, ◌^◌, ◌≤◌, eqb, ltb}
 use Rattle.std.proofs.Common.{sym, ◌∙◌, subst, arith, eqb-true, ltb-false}
 use Rattle.std.proofs.Math.Option.{Option, none, some}
 use Rattle.std.proofs.lemmas.Bool.{eqb-false, not-false}
-use Rattle.machine.specs.Basics.{if◌then◌else◌, is_some, is_none, elem}
+use Rattle.machine.specs.Basics.{is_some, is_none, elem}
 use Rattle.machine.specs.Machine.{Machine, condition}
 use Rattle.machine.specs.Exits.{free_record}
 use Rattle.machine.specs.Step.{Step, Body, rfork, name, yield, sleep, tsleep, qlock, exit, wait}

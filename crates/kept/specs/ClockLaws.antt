@@ -1,8 +1,8 @@
 -- The timers and the clock, when the queue, a setting, the last NOW or the ticks change.
-use Rattle.std.specs.Prelude.{◌≡◌, refl, Bool, true, false, not, List, [], ◌∷◌, ℕ, suc, ◌+◌, ◌-◌, ◌^◌, ◌≤◌, ◌<◌, eqb, leb, length, set}
+use Rattle.std.specs.Prelude.{if◌then◌else◌, ◌≡◌, refl, Bool, true, false, not, List, [], ◌∷◌, ℕ, suc, ◌+◌, ◌-◌, ◌^◌, ◌≤◌, ◌<◌, eqb, leb, length, set}
 use Rattle.std.proofs.Common.{sym, ap, ◌∙◌, arith, eqb-true, eq-eqb, ne_eqb, leb-true, leb-false, length-set, get_or-set_other}
 use Rattle.std.proofs.lemmas.Bool.{eqb-false}
-use Rattle.machine.specs.Basics.{if◌then◌else◌, count, filter}
+use Rattle.machine.specs.Basics.{count, filter}
 use Rattle.machine.specs.Machine.{Sizes, Process, Setting, Queued, free}
 use Rattle.machine.specs.Timers.{insert, remove}
 use Rattle.machine.specs.Good.{Each, SettingInRange, QueuedInRange, ByDeadline, IsTsleep}

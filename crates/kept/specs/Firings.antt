@@ -1,5 +1,5 @@
 -- `intr`: every timer that is due fires.
-use Rattle.std.specs.Prelude.{◌≡◌, Bool, ◌⊎◌, ℕ, zero, suc, ◌+◌, ◌-◌, ◌^◌, ◌≤◌, ◌<◌, leb, length, get_or}
+use Rattle.std.specs.Prelude.{if◌then◌else◌, ◌≡◌, Bool, ◌⊎◌, ℕ, zero, suc, ◌+◌, ◌-◌, ◌^◌, ◌≤◌, ◌<◌, leb, length, get_or}
 use Rattle.std.proofs.Math.Path.{refl, ap}
 use Rattle.std.proofs.Common.{sym, ◌∙◌, subst, inl, inr, arith}
 use Rattle.std.proofs.Math.Bool.{true, false}
@@ -8,7 +8,7 @@ use Rattle.std.proofs.Math.Option.{Option, none, some}
 use borrow.Author.Tests.{eqb-true, eqb-false, leb-true}
 use Rattle.std.proofs.Math.Dec.{eqb, ltb}
 use Rattle.clock.specs.Counts.{counts_of}
-use Rattle.machine.specs.Basics.{if◌then◌else◌, elem, count}
+use Rattle.machine.specs.Basics.{elem, count}
 use Rattle.machine.specs.Machine.{Resume, nothing, in_sleep, in_tsleep, in_qlock, in_wait, Machine, Setting, Queued, process, sleeper, setting}
 use Rattle.machine.specs.Update.{with_ticks, with_queued, with_last_now, with_run, with_sleeper}
 use Rattle.machine.specs.Step.{intr, open_step}

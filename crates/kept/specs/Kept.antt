@@ -1,8 +1,7 @@
 -- Every step keeps a machine well formed, done or refused.
-use Rattle.std.specs.Prelude.{◌≡◌, refl, Bool, true, false, ◌&&◌, [], ℕ, suc, eqb, ltb}
+use Rattle.std.specs.Prelude.{if◌then◌else◌, ◌≡◌, refl, Bool, true, false, ◌&&◌, [], ℕ, suc, eqb, ltb}
 use Rattle.std.proofs.Common.{ap, subst, arith, eqb-true}
 use Rattle.std.proofs.Math.Option.{Option, none, some}
-use Rattle.machine.specs.Basics.{if◌then◌else◌}
 use Rattle.machine.specs.Machine.{Machine}
 use Rattle.machine.specs.Update.{with_next_pid}
 use Rattle.machine.specs.Step.{Step, Body, start, rfork, name, sched, yield, sleep, tsleep, wakeup, qlock, canqlock, qunlock, cond, clock, tadd, tdel, intr, due, exit, wait, open_step}

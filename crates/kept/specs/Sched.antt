@@ -1,8 +1,8 @@
 -- `sched`: the first of the run queue is dispatched, and runs or goes asleep again.
-use Rattle.std.specs.Prelude.{◌≡◌, refl, Bool, true, false, not, ◌&&◌, List, [], ◌∷◌, ℕ, ◌+◌, ◌≤◌, ◌<◌, length}
+use Rattle.std.specs.Prelude.{if◌then◌else◌, ◌≡◌, refl, Bool, true, false, not, ◌&&◌, List, [], ◌∷◌, ℕ, ◌+◌, ◌≤◌, ◌<◌, length}
 use Rattle.std.proofs.Common.{ap, subst, arith, eq-eqb, length-set, get_or-set_same}
 use Rattle.std.proofs.Math.Option.{Option, none, some}
-use Rattle.machine.specs.Basics.{if◌then◌else◌, is_some, is_empty, elem, count}
+use Rattle.machine.specs.Basics.{is_some, is_empty, elem, count}
 use Rattle.machine.specs.Machine.{Resume, nothing, in_sleep, in_tsleep, in_qlock, in_wait, Machine, Process, free, process, sleeper, condition, pid_of}
 use Rattle.machine.specs.Update.{with_process, with_run, with_up, with_resume, with_quantum_end, open_update, with_queued}
 use Rattle.machine.specs.Step.{sched, open_step}

@@ -1,11 +1,11 @@
 -- The steps that move nobody, and those of locks and Rendez that move one.
-use Rattle.std.specs.Prelude.{◌≡◌, refl, Bool, true, false, ◌&&◌, ◌||◌, List, [], ◌∷◌, ◌++◌, ◌⊎◌, ℕ, ◌+◌, ◌-◌, ◌^◌, ◌≤◌, ◌<◌, eqb, leb, ltb, length, replicate}
+use Rattle.std.specs.Prelude.{if◌then◌else◌, ◌≡◌, refl, Bool, true, false, ◌&&◌, ◌||◌, List, [], ◌∷◌, ◌++◌, ◌⊎◌, ℕ, ◌+◌, ◌-◌, ◌^◌, ◌≤◌, ◌<◌, eqb, leb, ltb, length, replicate}
 use Rattle.std.proofs.Common.{sym, inl, inr, arith, ltb-true, ltb-false, leb-true, length-append}
 use Rattle.std.proofs.Math.Option.{Option, none, some}
 use Rattle.std.proofs.lemmas.List.{length-replicate}
 use Rattle.clock.specs.Counts.{counts_of, nanos_of, shorter, zero_duration}
 use Rattle.clock.specs.Laws.{counts_mono}
-use Rattle.machine.specs.Basics.{if◌then◌else◌, elem, all}
+use Rattle.machine.specs.Basics.{elem, all}
 use Rattle.machine.specs.Machine.{Sizes, Machine, Setting, Queued, free, process, sleeper, lock}
 use Rattle.machine.specs.Update.{with_last_now, with_setting, with_name, with_up, with_sleeper, with_lock}
 use Rattle.machine.specs.Step.{name, yield, wakeup, canqlock, qunlock, cond, clock, tadd, tdel, due, open_step}

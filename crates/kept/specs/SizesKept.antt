@@ -1,8 +1,8 @@
 -- No step changes a machine's sizes.
-use Rattle.std.specs.Prelude.{◌≡◌, refl, Bool, true, false, not, ◌&&◌, List, [], ◌∷◌, ℕ, zero, suc, ◌-◌, eqb, ltb, leb}
+use Rattle.std.specs.Prelude.{if◌then◌else◌, ◌≡◌, refl, Bool, true, false, not, ◌&&◌, List, [], ◌∷◌, ℕ, zero, suc, ◌-◌, eqb, ltb, leb}
 use Rattle.std.proofs.Common.{◌∙◌}
 use Rattle.std.proofs.Math.Option.{Option, none, some}
-use Rattle.machine.specs.Basics.{if◌then◌else◌, is_empty}
+use Rattle.machine.specs.Basics.{is_empty}
 use Rattle.machine.specs.Machine.{Machine, Sizes, Process, Queued, Resume, nothing, in_sleep, in_tsleep, in_qlock, in_wait, process, sleeper, lock, condition, setting}
 use Rattle.machine.specs.Update.{open_update, with_process, with_nchild, with_queued, with_last_now}
 use Rattle.machine.specs.Step.{Step, Body, start, rfork, name, sched, yield, sleep, tsleep, wakeup, qlock, canqlock, qunlock, cond, clock, tadd, tdel, intr, due, exit, wait}

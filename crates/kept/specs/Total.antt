@@ -1,9 +1,9 @@
 -- A step always comes back done or with one number of the table: totality, for whatever is handed in.
-use Rattle.std.specs.Prelude.{◌≡◌, refl, Bool, true, false, ◌||◌, List, [], ◌∷◌, ℕ, eqb, ltb}
+use Rattle.std.specs.Prelude.{if◌then◌else◌, ◌≡◌, refl, Bool, true, false, ◌||◌, List, [], ◌∷◌, ℕ, eqb, ltb}
 use Rattle.std.proofs.Common.{sym, subst, eqb-true, eq-eqb}
 use Rattle.std.proofs.lemmas.Bool.{false≢true}
 use Rattle.std.proofs.Math.Option.{Option, none, some, none-ne-some}
-use Rattle.machine.specs.Basics.{if◌then◌else◌, elem}
+use Rattle.machine.specs.Basics.{elem}
 use Rattle.machine.specs.Machine.{Machine}
 use Rattle.machine.specs.Step.{Step}
 use Rattle.machine.specs.Outcome.{Answer, Reply, answer, refused}

@@ -1,1 +1,2 @@
 // What the definition guarantees, as mathematics alone: this crate has laws in specs/, and no code.
+#![tactic(auto)]

@@ -1,4 +1,6 @@
 // Whether the records agree on who is whose parent.
+#![tactic(auto)]
+
 ghost use Rattle.std.specs.Prelude.{◌+◌, ◌<◌, ◌≤◌};
 ghost use Rattle.state.specs.Places.{sizes_in};
 ghost use Rattle.rules.specs.Code.{mem_in, Whole, Decides};

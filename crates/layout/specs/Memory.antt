@@ -1,5 +1,5 @@
 -- The memory of a state: a function of field and index. One law of a store, for any table that passes the test.
-use Rattle.std.specs.Prelude.{◌≡◌, Bool, List, ℕ, ◌+◌, ◌^◌, ◌≤◌, ◌<◌, T, eqb, length}
+use Rattle.std.specs.Prelude.{if◌then◌else◌, ◌≡◌, Bool, List, ℕ, ◌+◌, ◌^◌, ◌≤◌, ◌<◌, T, eqb, length}
 use Rattle.std.proofs.Math.Path.{refl, sym, fun_ext}
 use Rattle.std.proofs.Common.{ap, subst, ◌∙◌, arith, ltb-true, ltb-false, eqb-true, lt-ltb, le-ltb}
 use Rattle.std.proofs.Math.Bool.{true, false}
@@ -7,7 +7,6 @@ use Rattle.std.proofs.lemmas.Bool.{eqb-false}
 use Rattle.std.proofs.Math.Dec.{ltb}
 use Rattle.std.proofs.Math.ListN.{get_or-eq_default}
 use Rattle.memory.specs.Le.{le, put, length-put, le-put-same, le-put-other}
-use Rattle.machine.specs.Basics.{if◌then◌else◌}
 use Rattle.layout.specs.Table.{Slot, slot, Layout, field, count, total, place, sound}
 use Rattle.layout.specs.Place.{Inside, Split, inside-at, split_at, below_total, Clear, clear}
 

@@ -1,6 +1,6 @@
 -- A layout is a table: regions that follow one another, each an array of records of one size, and the fields in those records.
-use Rattle.std.specs.Prelude.{Bool, true, not, ◌&&◌, ◌||◌, List, [], ◌∷◌, ℕ, zero, suc, ◌+◌, ◌*◌, eqb, leb, ltb, length, get_or}
-use Rattle.machine.specs.Basics.{if◌then◌else◌, all}
+use Rattle.std.specs.Prelude.{if◌then◌else◌, Bool, true, not, ◌&&◌, ◌||◌, List, [], ◌∷◌, ℕ, zero, suc, ◌+◌, ◌*◌, eqb, leb, ltb, length, get_or}
+use Rattle.machine.specs.Basics.{all}
 
 -- A field: the region whose records have it, where in the record it begins, and how many bytes it takes.
 pub record Slot : Type 0 where

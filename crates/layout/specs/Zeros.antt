@@ -1,10 +1,9 @@
 -- The memory of bytes that are zero as far as the state goes.
-use Rattle.std.specs.Prelude.{◌≡◌, refl, Bool, true, false, List, ◌++◌, ℕ, zero, suc, ◌+◌, ◌≤◌, ◌<◌, T, ltb, length, get_or, replicate}
+use Rattle.std.specs.Prelude.{if◌then◌else◌, ◌≡◌, refl, Bool, true, false, List, ◌++◌, ℕ, zero, suc, ◌+◌, ◌≤◌, ◌<◌, T, ltb, length, get_or, replicate}
 use Rattle.std.proofs.Common.{ap, arith, ltb-true, ltb-false}
 use Rattle.std.proofs.Math.Path.{fun_ext}
 use Rattle.std.proofs.Math.ListN.{get_or-append}
 use Rattle.memory.specs.Le.{le}
-use Rattle.machine.specs.Basics.{if◌then◌else◌}
 use Rattle.layout.specs.Table.{Layout, field, count, total, place, sound}
 use Rattle.layout.specs.Place.{inside-at, below_total}
 use Rattle.layout.specs.Memory.{Memory, mem, cell, mem-past}

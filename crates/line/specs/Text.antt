@@ -1,8 +1,8 @@
 -- The text that a line prints: the status that an `exit` was given, or the message.
-use Rattle.std.specs.Prelude.{◌≡◌, refl, Bool, true, false, not, List, [], ◌∷◌, ℕ, eqb, ltb}
+use Rattle.std.specs.Prelude.{if◌then◌else◌, ◌≡◌, refl, Bool, true, false, not, List, [], ◌∷◌, ℕ, eqb, ltb}
 use Rattle.std.proofs.Common.{true≢false}
 use Rattle.std.proofs.Math.Option.{Option, none, some}
-use Rattle.machine.specs.Basics.{if◌then◌else◌, is_empty}
+use Rattle.machine.specs.Basics.{is_empty}
 use Rattle.machine.specs.Flags.{has, RFPROC, RFNOWAIT}
 use Rattle.machine.specs.Machine.{Machine, Resume, nothing, in_sleep, in_tsleep, in_qlock, in_wait, condition, lock, asleep_on, asleep, process}
 use Rattle.machine.specs.Step.{Step, Body, start, rfork, name, sched, yield, sleep, tsleep, wakeup, qlock, canqlock, qunlock, cond, clock, tadd, tdel, intr, due, exit, wait}

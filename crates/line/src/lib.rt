@@ -1,4 +1,6 @@
 // One step of the input of `steps`: it is taken, and its line of the listing is written.
+#![tactic(auto)]
+
 ghost use Rattle.std.specs.Prelude.{◌≡◌};
 ghost use Rattle.line.specs.Line.{LineAsks, StepAsks, is_exit, line_most, LineTook, LineTaken};
 ghost use Rattle.machine.specs.Bytes.{decode};

@@ -1,4 +1,6 @@
 // The listing of an input that comes in chunks.
+#![tactic(auto)]
+
 ghost use Rattle.std.specs.Prelude.{◌≡◌, ◌≤◌, min, length};
 ghost use Rattle.listing.specs.Pieces.{piece, LineEnd};
 ghost use Rattle.listing.specs.Held.{KeepAsks, Kept};
@@ -24,7 +26,7 @@ pub const MESSAGE_SIZE: usize = 127;
 
 // How far it has got: the place in the chunk, how many bytes of the line begun are held, the number of the next step, and how
 // many bytes of the buffer for the listing are used.
-#[derive(Drop)]
+#[derive(Clone, Copy)]
 pub struct Fed {
     pub from: usize,
     pub have: usize,

@@ -1,9 +1,9 @@
 -- Lists: what every element has, and how often a number stands in a list when one element of it changes.
-use Rattle.std.specs.Prelude.{◌≡◌, refl, Bool, true, false, List, [], ◌∷◌, ◌++◌, ℕ, zero, suc, ◌+◌, ◌≤◌, ◌<◌, eqb, length, get_or, set}
+use Rattle.std.specs.Prelude.{if◌then◌else◌, ◌≡◌, refl, Bool, true, false, List, [], ◌∷◌, ◌++◌, ℕ, zero, suc, ◌+◌, ◌≤◌, ◌<◌, eqb, length, get_or, set}
 use Rattle.std.proofs.Common.{sym, ap, subst, arith, not-suc-le-zero, le_of_suc-le-suc, zero-add, eqb-true, eq-eqb, ne_eqb}
 use Rattle.std.proofs.Math.Option.{Option, none, some}
 use Rattle.std.proofs.lemmas.Bool.{eqb-false}
-use Rattle.machine.specs.Basics.{if◌then◌else◌, elem, count, count_that, concat_map, present, first_that, highest_below, numbers_from}
+use Rattle.machine.specs.Basics.{elem, count, count_that, concat_map, present, first_that, highest_below, numbers_from}
 use Rattle.machine.specs.Good.{Each, running_in}
 
 -- 1 for true, 0 for false

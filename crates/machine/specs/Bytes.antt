@@ -1,9 +1,9 @@
 -- Steps as bytes.
-use Rattle.std.specs.Prelude.{true, false, ◌&&◌, List, [], ◌∷◌, ◌++◌, ℕ, zero, suc, ◌+◌, ◌*◌, ◌/◌, ◌%◌, eqb, leb, ltb, length, get_or, drop}
+use Rattle.std.specs.Prelude.{if◌then◌else◌, true, false, ◌&&◌, List, [], ◌∷◌, ◌++◌, ℕ, zero, suc, ◌+◌, ◌*◌, ◌/◌, ◌%◌, eqb, leb, ltb, length, get_or, drop}
 use Rattle.std.proofs.Math.Option.{Option, none, some}
 use lib.Text.{eqt}
 use Rattle.memory.specs.Le.{le}
-use Rattle.machine.specs.Basics.{if◌then◌else◌, concat_map}
+use Rattle.machine.specs.Basics.{concat_map}
 use Rattle.machine.specs.Step.{Step, Body, Form, takes_numbers, takes_bytes, Kind, kinds, fill, Fields, numbers, bytes, word_of, fields_of}
 
 -- The n bytes of a number, little end first.

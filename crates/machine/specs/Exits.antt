@@ -1,7 +1,7 @@
 -- Records and message cells, and what an exit leaves for the parent.
-use Rattle.std.specs.Prelude.{Bool, false, not, List, [], ◌∷◌, map, ℕ, ◌-◌, eqb, ltb, length}
+use Rattle.std.specs.Prelude.{if◌then◌else◌, Bool, false, not, List, [], ◌∷◌, map, ℕ, ◌-◌, eqb, ltb, length}
 use Rattle.std.proofs.Math.Option.{Option, none, some, get_or}
-use Rattle.machine.specs.Basics.{if◌then◌else◌, elem, concat_map, first_that, highest_below}
+use Rattle.machine.specs.Basics.{elem, concat_map, first_that, highest_below}
 use Rattle.machine.specs.Machine.{Machine, Process, Exit, free, process, pid_of, living}
 use Rattle.machine.specs.Update.{with_up, with_process, with_nchild, with_exits, with_on_waitr}
 use Rattle.machine.specs.Message.{message}

@@ -1,9 +1,9 @@
 -- When a machine is one that a well-formed state holds: 01's paragraph 'A state is well formed exactly if', clause by clause.
 -- What that paragraph says of links and stored counts (asleep, queues that run from head to tail) is said of the bytes.
-use Rattle.std.specs.Prelude.{◌≡◌, true, false, ◌&&◌, List, [], ◌∷◌, ◌++◌, map, ◌⊎◌, ℕ, ◌+◌, ◌-◌, ◌^◌, ◌≤◌, ◌<◌, eqb, length}
+use Rattle.std.specs.Prelude.{if◌then◌else◌, ◌≡◌, true, false, ◌&&◌, List, [], ◌∷◌, ◌++◌, map, ◌⊎◌, ℕ, ◌+◌, ◌-◌, ◌^◌, ◌≤◌, ◌<◌, eqb, length}
 use Rattle.std.proofs.Math.Option.{Option, none, some}
 use Rattle.clock.specs.Counts.{counts_of}
-use Rattle.machine.specs.Basics.{if◌then◌else◌, count, count_that}
+use Rattle.machine.specs.Basics.{count, count_that}
 use Rattle.machine.specs.Machine.{Sizes, Resume, nothing, in_sleep, in_tsleep, in_qlock, in_wait, Exit, Process, Setting, Queued, Machine, free, process, sleeper, lock, setting, pid_of, living, asleep_on}
 use Rattle.machine.specs.Exits.{cells_used}
 use Rattle.machine.specs.Timers.{own_timer}

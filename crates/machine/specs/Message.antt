@@ -1,6 +1,6 @@
 -- Exit messages.
-use Rattle.std.specs.Prelude.{Bool, true, false, ◌&&◌, List, [], ◌∷◌, ◌++◌, ℕ, zero, suc, ◌+◌, ◌/◌, ◌%◌, eqb, leb, ltb, length, get_or, take}
-use Rattle.machine.specs.Basics.{if◌then◌else◌, is_empty, ascii}
+use Rattle.std.specs.Prelude.{if◌then◌else◌, Bool, true, false, ◌&&◌, List, [], ◌∷◌, ◌++◌, ℕ, zero, suc, ◌+◌, ◌/◌, ◌%◌, eqb, leb, ltb, length, get_or, take}
+use Rattle.machine.specs.Basics.{is_empty, ascii}
 
 -- Numbers are in decimal. The digits of n, for n below 10 to the power of fuel + 1.
 unfoldable pub digits : ℕ → ℕ → List ℕ

@@ -1,7 +1,7 @@
 -- A line of the input of `steps` as a step.
-use Rattle.std.specs.Prelude.{Bool, true, false, ◌&&◌, List, [], ◌∷◌, ℕ, ◌+◌, ◌-◌, ◌*◌, ◌^◌, eqb, leb, ltb, length, take, drop}
+use Rattle.std.specs.Prelude.{if◌then◌else◌, Bool, true, false, ◌&&◌, List, [], ◌∷◌, ℕ, ◌+◌, ◌-◌, ◌*◌, ◌^◌, eqb, leb, ltb, length, take, drop}
 use Rattle.std.proofs.Math.Option.{Option, none, some}
-use Rattle.machine.specs.Basics.{if◌then◌else◌, same, ascii}
+use Rattle.machine.specs.Basics.{same, ascii}
 use Rattle.machine.specs.Step.{Step, Body, Takes, Form, Kind, takes_numbers, takes_bytes, kinds, fill}
 
 -- A byte in front of the first of some lines or words.

@@ -1,8 +1,8 @@
 -- What each step does where the table does not refuse it.
-use Rattle.std.specs.Prelude.{Bool, true, false, not, List, [], ◌∷◌, ◌++◌, ℕ, suc, ◌+◌, ◌-◌, ◌/◌, eqb, leb, length, replicate}
+use Rattle.std.specs.Prelude.{if◌then◌else◌, Bool, true, false, not, List, [], ◌∷◌, ◌++◌, ℕ, suc, ◌+◌, ◌-◌, ◌/◌, eqb, leb, length, replicate}
 use Rattle.std.proofs.Math.Option.{none, some, get_or}
 use Rattle.clock.specs.Counts.{counts_of}
-use Rattle.machine.specs.Basics.{if◌then◌else◌, is_empty}
+use Rattle.machine.specs.Basics.{is_empty}
 use Rattle.machine.specs.Machine.{Machine, Process, Exit, Resume, nothing, in_sleep, in_tsleep, in_qlock, in_wait, process, lock, condition, pid_of, asleep}
 use Rattle.machine.specs.Update.{with_next_pid, with_last_now, with_up, with_run, with_process, with_lock, with_setting, with_condition, with_name, with_nchild, with_exits, with_quantum_end, with_resume}
 use Rattle.machine.specs.Step.{Body, start, rfork, name, sched, yield, sleep, tsleep, wakeup, qlock, canqlock, qunlock, cond, clock, tadd, tdel, intr, due, exit, wait}

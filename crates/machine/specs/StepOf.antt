@@ -1,7 +1,6 @@
 -- A step on a machine: refused where the table says, otherwise done.
-use Rattle.std.specs.Prelude.{◌&&◌, [], ℕ, suc, eqb, ltb}
+use Rattle.std.specs.Prelude.{if◌then◌else◌, ◌&&◌, [], ℕ, suc, eqb, ltb}
 use Rattle.std.proofs.Math.Option.{Option, none, some}
-use Rattle.machine.specs.Basics.{if◌then◌else◌}
 use Rattle.machine.specs.Machine.{Machine}
 use Rattle.machine.specs.Update.{with_next_pid}
 use Rattle.machine.specs.Step.{Step, Body}

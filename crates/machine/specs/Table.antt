@@ -1,10 +1,10 @@
 -- Steps not done: 01's table, row by row, and the order of tests.
-use Rattle.std.specs.Prelude.{Bool, true, false, not, ◌&&◌, ◌||◌, List, [], ◌∷◌, ℕ, zero, suc, ◌-◌, ◌^◌, eqb, leb, ltb, length}
+use Rattle.std.specs.Prelude.{if◌then◌else◌, Bool, true, false, not, ◌&&◌, ◌||◌, List, [], ◌∷◌, ℕ, zero, suc, ◌-◌, ◌^◌, eqb, leb, ltb, length}
 use Rattle.std.proofs.Math.Option.{Option, none, some}
 use Prim.Native.String.{String}
 use lib.Text.{eqt}
 use Rattle.clock.specs.Counts.{counts_of, zero_duration, shorter}
-use Rattle.machine.specs.Basics.{if◌then◌else◌, is_some, is_none, is_empty, all}
+use Rattle.machine.specs.Basics.{is_some, is_none, is_empty, all}
 use Rattle.machine.specs.Machine.{Machine, Sizes, Resume, nothing, in_sleep, in_tsleep, in_qlock, in_wait, process, sleeper, lock, condition}
 use Rattle.machine.specs.Step.{Step, Body, start, rfork, name, sched, yield, sleep, tsleep, wakeup, qlock, canqlock, qunlock, cond, clock, tadd, tdel, intr, due, exit, wait, Fields, numbers, bytes, word_of, fields_of}
 use Rattle.machine.specs.Flags.{has, bad, RFPROC}

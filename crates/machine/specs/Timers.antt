@@ -1,6 +1,6 @@
 -- The timer queue, and `interrupt`.
-use Rattle.std.specs.Prelude.{Bool, true, false, not, List, [], ◌∷◌, ◌++◌, ℕ, zero, suc, ◌+◌, ◌-◌, eqb, leb, ltb}
-use Rattle.machine.specs.Basics.{if◌then◌else◌, is_some, filter, first_that}
+use Rattle.std.specs.Prelude.{if◌then◌else◌, Bool, true, false, not, List, [], ◌∷◌, ◌++◌, ℕ, zero, suc, ◌+◌, ◌-◌, eqb, leb, ltb}
+use Rattle.machine.specs.Basics.{is_some, filter, first_that}
 use Rattle.machine.specs.Machine.{Machine, Queued, Resume, nothing, in_sleep, in_tsleep, in_qlock, in_wait, process, setting}
 use Rattle.machine.specs.Update.{with_ticks, with_queued}
 use Rattle.machine.specs.Places.{Woken, wake}

@@ -1,9 +1,8 @@
 -- `interrupt` never stops for its bound on the firings: when it ends, no queued timer at the head is due.
-use Rattle.std.specs.Prelude.{◌≡◌, refl, Bool, true, false, List, [], ◌∷◌, ℕ, zero, suc, ◌+◌, ◌-◌, ◌≤◌, ◌<◌, eqb, leb, ltb}
+use Rattle.std.specs.Prelude.{if◌then◌else◌, ◌≡◌, refl, Bool, true, false, List, [], ◌∷◌, ℕ, zero, suc, ◌+◌, ◌-◌, ◌≤◌, ◌<◌, eqb, leb, ltb}
 use Rattle.std.proofs.Common.{ap, subst, arith, leb-true, leb-false}
 use Rattle.std.proofs.Math.Option.{Option, none, some}
 use Rattle.std.proofs.lemmas.Bool.{eqb-false}
-use Rattle.machine.specs.Basics.{if◌then◌else◌}
 use Rattle.machine.specs.Machine.{Machine, Queued, Resume, nothing, in_sleep, in_tsleep, in_qlock, in_wait, process, setting, sleeper}
 use Rattle.machine.specs.Update.{with_ticks, with_queued, with_run, with_sleeper}
 use Rattle.machine.specs.Places.{Woken, ready, wake}

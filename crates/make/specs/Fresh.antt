@@ -1,7 +1,6 @@
 -- The bytes of a fresh state, and what `size` and `make` answer.
-use Rattle.std.specs.Prelude.{Bool, not, ◌&&◌, List, [], ◌∷◌, ◌++◌, ℕ, leb, ltb, length, drop, replicate}
+use Rattle.std.specs.Prelude.{if◌then◌else◌, Bool, not, ◌&&◌, List, [], ◌∷◌, ◌++◌, ℕ, leb, ltb, length, drop, replicate}
 use Rattle.clock.specs.Counts.{counts_of}
-use Rattle.machine.specs.Basics.{if◌then◌else◌}
 use Rattle.machine.specs.Machine.{Sizes}
 use Rattle.layout.specs.Table.{total}
 use Rattle.layout.specs.Writes.{Write, to, writes}

@@ -1,10 +1,10 @@
 -- The memory of a fresh state holds a fresh machine, by the layout's rules.
-use Rattle.std.specs.Prelude.{◌≡◌, refl, Bool, true, false, not, ◌&&◌, List, [], ◌∷◌, map, ℕ, zero, suc, ◌+◌, ◌*◌, ◌≤◌, ltb, length, replicate, set}
+use Rattle.std.specs.Prelude.{if◌then◌else◌, ◌≡◌, refl, Bool, true, false, not, ◌&&◌, List, [], ◌∷◌, map, ℕ, zero, suc, ◌+◌, ◌*◌, ◌≤◌, ltb, length, replicate, set}
 use Rattle.std.proofs.Common.{sym, ◌∙◌, arith, not-suc-le-zero}
 use Rattle.std.proofs.Math.Path.{ap, subst}
 use Rattle.std.proofs.Math.Option.{none}
 use Rattle.clock.specs.Counts.{counts_of}
-use Rattle.machine.specs.Basics.{if◌then◌else◌, count, concat_map, present, numbers_from}
+use Rattle.machine.specs.Basics.{count, concat_map, present, numbers_from}
 use Rattle.machine.specs.Machine.{Sizes, Process, Lock, Setting, free, fresh, asleep, asleep_on}
 use Rattle.machine.specs.Good.{SizesInRange, Good}
 use Rattle.layout.specs.Memory.{Memory, mem}

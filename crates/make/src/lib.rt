@@ -1,4 +1,6 @@
 // How many bytes a state takes, and how a fresh one is made.
+#![tactic(auto)]
+
 ghost use Rattle.std.specs.Prelude.{◌≡◌, ◌+◌, ◌<◌, ◌≤◌, ◌++◌, length, drop, replicate};
 ghost use Rattle.make.specs.Fresh.{sizes_for, fresh_bytes, marks_of, size_stores, rest_stores};
 ghost use Rattle.make.specs.Code.{MakeAsks, Within, CountsFit};

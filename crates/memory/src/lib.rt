@@ -1,5 +1,7 @@
 // Numbers of 1, 2, 4 and 8 bytes in a lent slice of bytes, little end first.
 // A number is loaded and stored as two halves, the low half first.
+#![tactic(auto)]
+
 ghost use Rattle.std.specs.Prelude.{◌≡◌, ◌+◌, ◌≤◌, length};
 ghost use Rattle.memory.specs.Le.{le, put};
 

@@ -1,8 +1,7 @@
 -- What `exit_message` answers its C callers and leaves in the cell that they lend, and what the code shows at each way out.
-use Rattle.std.specs.Prelude.{◌≡◌, refl, Bool, ◌&&◌, List, [], ◌∷◌, ◌++◌, ℕ, zero, suc, ◌≤◌, ◌<◌, leb, length, take, drop}
+use Rattle.std.specs.Prelude.{if◌then◌else◌, ◌≡◌, refl, Bool, ◌&&◌, List, [], ◌∷◌, ◌++◌, ℕ, zero, suc, ◌≤◌, ◌<◌, leb, length, take, drop}
 use Rattle.std.proofs.Common.{ap, ◌∙◌, append_assoc, arith, not-suc-le-zero, le_of_suc-le-suc, le-leb, take-append-drop, length-take-le}
 use Rattle.std.proofs.lemmas.Bool.{lt-leb}
-use Rattle.machine.specs.Basics.{if◌then◌else◌}
 use Rattle.machine.specs.Message.{message}
 use Rattle.message.specs.Answers.{MessageAsks, MessageWritten}
 

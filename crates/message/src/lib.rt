@@ -1,5 +1,7 @@
 // The message of an exit, written straight into its cell: the name up to its first zero byte, a space, the pid, a colon,
 // a space and the status; over 127 bytes cut at 127, moving back over bytes 10xxxxxx.
+#![tactic(auto)]
+
 ghost use Rattle.std.specs.Prelude.{◌≡◌, ◌+◌, ◌%◌, length};
 ghost use Rattle.message.specs.Text.{TextAt, NameEnds};
 ghost use Rattle.message.specs.Digits.{Written};

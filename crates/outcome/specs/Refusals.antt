@@ -1,8 +1,7 @@
 -- A step's number as one test after another, and the step by its number.
-use Rattle.std.specs.Prelude.{◌≡◌, refl, Bool, true, false, List, [], ◌∷◌, ℕ}
+use Rattle.std.specs.Prelude.{if◌then◌else◌, ◌≡◌, refl, Bool, true, false, List, [], ◌∷◌, ℕ}
 use Rattle.std.proofs.Common.{◌∙◌}
 use Rattle.std.proofs.Math.Option.{Option, none, some}
-use Rattle.machine.specs.Basics.{if◌then◌else◌}
 use Rattle.machine.specs.Machine.{Machine}
 use Rattle.machine.specs.Step.{Step, Body}
 use Rattle.machine.specs.Table.{one_of, in_range, table, order, holds, first_of, refusal, running}

@@ -1,9 +1,9 @@
 -- The number that name, exit and wait meet.
-use Rattle.std.specs.Prelude.{◌≡◌, Bool, true, false, not, ◌&&◌, List, ℕ, eqb}
+use Rattle.std.specs.Prelude.{if◌then◌else◌, ◌≡◌, Bool, true, false, not, ◌&&◌, List, ℕ, eqb}
 use Rattle.std.proofs.Common.{◌∙◌}
 use Rattle.std.proofs.Math.Bool.{and_true}
 use Rattle.std.proofs.Math.Option.{none, some}
-use Rattle.machine.specs.Basics.{if◌then◌else◌, is_none, is_empty}
+use Rattle.machine.specs.Basics.{is_none, is_empty}
 use Rattle.machine.specs.Machine.{Machine, Resume, nothing, in_sleep, in_tsleep, in_qlock, in_wait, process}
 use Rattle.machine.specs.Step.{name, exit, wait, open_step}
 use Rattle.machine.specs.Exits.{free_cell, without, message_due}

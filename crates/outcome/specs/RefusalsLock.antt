@@ -1,9 +1,9 @@
 -- The number that qlock, canqlock and qunlock meet.
-use Rattle.std.specs.Prelude.{◌≡◌, Bool, true, false, not, ◌&&◌, ℕ}
+use Rattle.std.specs.Prelude.{if◌then◌else◌, ◌≡◌, Bool, true, false, not, ◌&&◌, ℕ}
 use Rattle.std.proofs.Common.{◌∙◌}
 use Rattle.std.proofs.Math.Bool.{and_false, or_false}
 use Rattle.std.proofs.Math.Option.{none, some}
-use Rattle.machine.specs.Basics.{if◌then◌else◌, is_none}
+use Rattle.machine.specs.Basics.{is_none}
 use Rattle.machine.specs.Machine.{Machine}
 use Rattle.machine.specs.Step.{qlock, canqlock, qunlock, open_step}
 use Rattle.machine.specs.Table.{refusal, in_range, held_lock, open_table}

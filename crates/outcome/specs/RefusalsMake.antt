@@ -1,9 +1,9 @@
 -- The number that start and rfork meet.
-use Rattle.std.specs.Prelude.{◌≡◌, Bool, true, false, not, ◌&&◌, ℕ, ◌-◌, ◌^◌, eqb}
+use Rattle.std.specs.Prelude.{if◌then◌else◌, ◌≡◌, Bool, true, false, not, ◌&&◌, ℕ, ◌-◌, ◌^◌, eqb}
 use Rattle.std.proofs.Common.{◌∙◌}
 use Rattle.std.proofs.Math.Bool.{and_false, and_true, or_false}
 use Rattle.std.proofs.Math.Option.{none, some}
-use Rattle.machine.specs.Basics.{if◌then◌else◌, is_none}
+use Rattle.machine.specs.Basics.{is_none}
 use Rattle.machine.specs.Machine.{Machine}
 use Rattle.machine.specs.Step.{start, rfork, open_step}
 use Rattle.machine.specs.Flags.{has, bad, RFPROC}

@@ -1,11 +1,11 @@
 -- The number that yield, sched, sleep, wakeup and cond meet.
-use Rattle.std.specs.Prelude.{◌≡◌, Bool, true, not, ◌&&◌, ◌||◌, ℕ}
+use Rattle.std.specs.Prelude.{if◌then◌else◌, ◌≡◌, Bool, true, not, ◌&&◌, ◌||◌, ℕ}
 use Rattle.std.proofs.Math.Path.{ap}
 use Rattle.std.proofs.Common.{◌∙◌}
 use Rattle.std.proofs.Math.Bool.{false, and_false, and_true, or_false}
 use mathlib.Core.List.{List, [], ◌∷◌}
 use Rattle.std.proofs.Math.Option.{none, some}
-use Rattle.machine.specs.Basics.{if◌then◌else◌, is_some, is_none}
+use Rattle.machine.specs.Basics.{is_some, is_none}
 use Rattle.machine.specs.Machine.{Machine, process, sleeper, condition}
 use Rattle.machine.specs.Step.{sched, yield, sleep, wakeup, cond, open_step}
 use Rattle.machine.specs.Table.{refusal, in_range, taken, taken_again, head_taken, open_table}

@@ -1,10 +1,10 @@
 -- The number that clock, intr, due, tadd and tdel meet.
-use Rattle.std.specs.Prelude.{◌≡◌, Bool, true, false, not, ◌||◌, ℕ, eqb}
+use Rattle.std.specs.Prelude.{if◌then◌else◌, ◌≡◌, Bool, true, false, not, ◌||◌, ℕ, eqb}
 use Rattle.std.proofs.Common.{◌∙◌}
 use Rattle.std.proofs.Math.Bool.{and_false, or_false}
 use Rattle.std.proofs.Math.Option.{none, some}
 use Rattle.clock.specs.Counts.{zero_duration, shorter}
-use Rattle.machine.specs.Basics.{if◌then◌else◌, is_none}
+use Rattle.machine.specs.Basics.{is_none}
 use Rattle.machine.specs.Machine.{Machine}
 use Rattle.machine.specs.Step.{clock, tadd, tdel, intr, due, open_step}
 use Rattle.machine.specs.Table.{refusal, in_range, bad_now, long_counts, open_table}

@@ -1,10 +1,10 @@
 -- The number that tsleep meets.
-use Rattle.std.specs.Prelude.{◌≡◌, Bool, true, not, ◌||◌, ℕ}
+use Rattle.std.specs.Prelude.{if◌then◌else◌, ◌≡◌, Bool, true, not, ◌||◌, ℕ}
 use Rattle.std.proofs.Common.{◌∙◌}
 use Rattle.std.proofs.Math.Bool.{false, and_true, or_false}
 use Rattle.std.proofs.Math.Option.{none, some}
 use Rattle.clock.specs.Counts.{zero_duration}
-use Rattle.machine.specs.Basics.{if◌then◌else◌, is_none}
+use Rattle.machine.specs.Basics.{is_none}
 use Rattle.machine.specs.Machine.{Machine}
 use Rattle.machine.specs.Step.{tsleep, open_step}
 use Rattle.machine.specs.Table.{refusal, in_range, taken, bad_now, long_counts, open_table}

@@ -1,7 +1,6 @@
 -- There is room in the count of those asleep: they are no more than there are records.
-use Rattle.std.specs.Prelude.{◌≡◌, Bool, true, false, List, ℕ, zero, suc, ◌+◌, ◌≤◌, ◌<◌}
+use Rattle.std.specs.Prelude.{if◌then◌else◌, ◌≡◌, Bool, true, false, List, ℕ, zero, suc, ◌+◌, ◌≤◌, ◌<◌}
 use Rattle.std.proofs.Common.{arith}
-use Rattle.machine.specs.Basics.{if◌then◌else◌}
 use Rattle.machine.specs.Machine.{asleep}
 use Rattle.state.specs.Fields as fields
 use Rattle.state.specs.Places.{sizes_in, mem_in}

@@ -1,6 +1,5 @@
 -- What a step asks of a state and ensures.
-use Rattle.std.specs.Prelude.{◌≡◌, ◌&&◌, List, [], ◌∷◌, ℕ, suc, eqb}
-use Rattle.machine.specs.Basics.{if◌then◌else◌}
+use Rattle.std.specs.Prelude.{if◌then◌else◌, ◌≡◌, ◌&&◌, List, [], ◌∷◌, ℕ, suc, eqb}
 use Rattle.machine.specs.Good.{Good}
 use Rattle.machine.specs.Step.{Step, Body}
 use Rattle.machine.specs.Table.{on}

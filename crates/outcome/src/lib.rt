@@ -1,4 +1,5 @@
 // What a step answers.
+#![tactic(auto)]
 
 // r9's names of the refusals that it returns as errors (error.rs), with 01's numbers.
 pub const EBADARG: u8 = 10;
@@ -10,7 +11,7 @@ pub const EINUSE: u8 = 14;
 pub const ENOCHILD: u8 = 15;
 
 // Numbers of processes and timers are as 01 prints them; a message is as long as `length` says, at the front of the message buffer.
-#[derive(Drop)]
+#[derive(Clone, Copy)]
 pub enum Reply {
     Pid { pid: u64 },
     Run { pid: u64 },

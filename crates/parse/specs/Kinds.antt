@@ -1,9 +1,9 @@
 -- The kind that a key names: its number, and its form by that number.
-use Rattle.std.specs.Prelude.{◌≡◌, refl, Bool, true, false, not, ◌&&◌, List, [], ◌∷◌, ℕ, ◌<◌, T, eqb, ltb}
+use Rattle.std.specs.Prelude.{if◌then◌else◌, ◌≡◌, refl, Bool, true, false, not, ◌&&◌, List, [], ◌∷◌, ℕ, ◌<◌, T, eqb, ltb}
 use Rattle.std.proofs.Common.{ap, ◌∙◌, arith, eq-eqb, ne_eqb, T_not, ltb→lt}
 use Rattle.std.proofs.Math.Option.{Option, none, some}
 use Rattle.std.proofs.Math.Dec.{eqb_refl}
-use Rattle.machine.specs.Basics.{if◌then◌else◌, all, ascii}
+use Rattle.machine.specs.Basics.{all, ascii}
 use Rattle.machine.specs.Step.{Body, Form, Kind, kinds}
 use Rattle.machine.specs.Parse.{after_space, body_in, parse_body}
 use Rattle.parse.specs.Letters.{letter_of, and_left, and_right}

@@ -1,8 +1,7 @@
 -- Letters, and tests of two parts.
-use Rattle.std.specs.Prelude.{◌≡◌, refl, Bool, true, false, ◌&&◌, ℕ, ◌+◌, ◌-◌, ◌≤◌, ◌<◌, T, leb}
+use Rattle.std.specs.Prelude.{if◌then◌else◌, ◌≡◌, refl, Bool, true, false, ◌&&◌, ℕ, ◌+◌, ◌-◌, ◌≤◌, ◌<◌, T, leb}
 use Rattle.std.proofs.Common.{arith, le-leb, leb-true}
 use Rattle.std.proofs.lemmas.Bool.{lt-leb}
-use Rattle.machine.specs.Basics.{if◌then◌else◌}
 
 -- A letter's place in the alphabet, from 1; 0 for any other byte.
 unfoldable pub letter_of : ℕ → ℕ

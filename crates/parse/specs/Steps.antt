@@ -1,9 +1,8 @@
 -- The body that the bytes of a step's fields are.
-use Rattle.std.specs.Prelude.{◌≡◌, refl, Bool, true, false, List, [], ◌∷◌, ℕ, zero, suc, ◌+◌, ◌*◌, ◌^◌, ◌≤◌, ◌<◌, T, eqb, leb, length, get_or}
+use Rattle.std.specs.Prelude.{if◌then◌else◌, ◌≡◌, refl, Bool, true, false, List, [], ◌∷◌, ℕ, zero, suc, ◌+◌, ◌*◌, ◌^◌, ◌≤◌, ◌<◌, T, eqb, leb, length, get_or}
 use Rattle.std.proofs.Common.{sym, ap, ◌∙◌, arith, eq-eqb, eqb-true, le-ltb, eqb→eq}
 use Rattle.std.proofs.Math.Option.{Option, none, some}
 use Rattle.std.proofs.lemmas.Bool.{eqb-false}
-use Rattle.machine.specs.Basics.{if◌then◌else◌}
 use Rattle.machine.specs.Step.{Body, Takes, Form, takes_numbers, takes_bytes, Kind, kinds, fill}
 use Rattle.machine.specs.Bytes.{numbers_at, decode_form, decode_body, marking, decode}
 use Rattle.machine.specs.BytesLaws.{length_fields, fields_back, bytes-form}

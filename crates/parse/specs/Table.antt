@@ -1,9 +1,9 @@
 -- The words by the remainder of their keys, as the code finds them.
-use Rattle.std.specs.Prelude.{◌≡◌, refl, Bool, true, false, ◌&&◌, ◌||◌, List, [], ◌∷◌, ℕ, zero, suc, ◌+◌, ◌*◌, ◌/◌, ◌%◌, ◌<◌, T, eqb, leb}
+use Rattle.std.specs.Prelude.{if◌then◌else◌, ◌≡◌, refl, Bool, true, false, ◌&&◌, ◌||◌, List, [], ◌∷◌, ℕ, zero, suc, ◌+◌, ◌*◌, ◌/◌, ◌%◌, ◌<◌, T, eqb, leb}
 use Rattle.std.proofs.Common.{sym, ◌∙◌, not-suc-le-zero, arith, ne_eqb, eqb-true, eqb→eq}
 use Rattle.std.proofs.Math.Option.{Option, none, some}
 use Rattle.std.proofs.lemmas.Bool.{eqb-false}
-use Rattle.machine.specs.Basics.{if◌then◌else◌, elem, all, ascii}
+use Rattle.machine.specs.Basics.{elem, all, ascii}
 use Rattle.machine.specs.Step.{Form, takes_numbers, takes_bytes, Kind, kinds}
 use Rattle.parse.specs.Letters.{letter_of, and_left, and_right}
 use Rattle.parse.specs.Words.{key, is}

@@ -1,10 +1,10 @@
 -- The first word of a line as a number, its key.
-use Rattle.std.specs.Prelude.{◌≡◌, refl, Bool, true, false, ◌&&◌, List, [], ◌∷◌, ℕ, zero, suc, ◌+◌, ◌*◌, ◌≤◌, ◌<◌, T, eqb, ltb}
+use Rattle.std.specs.Prelude.{if◌then◌else◌, ◌≡◌, refl, Bool, true, false, ◌&&◌, List, [], ◌∷◌, ℕ, zero, suc, ◌+◌, ◌*◌, ◌≤◌, ◌<◌, T, eqb, ltb}
 use Rattle.std.proofs.Common.{sym, ap, arith, eq-eqb, ne_eqb, eqb-true, ltb→lt}
 use Rattle.std.proofs.Math.Bool.{and_false}
 use Rattle.std.proofs.Math.Option.{Option, none, some}
 use Rattle.std.proofs.lemmas.Bool.{eqb-false}
-use Rattle.machine.specs.Basics.{if◌then◌else◌, same}
+use Rattle.machine.specs.Basics.{same}
 use Rattle.machine.specs.Parse.{first_word}
 use Rattle.parse.specs.Letters.{letter_of, and_left, and_right, letter-is}
 

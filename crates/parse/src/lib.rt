@@ -1,4 +1,6 @@
 // A line of the input of `steps` to the bytes of its step.
+#![tactic(auto)]
+
 ghost use Rattle.std.specs.Prelude.{◌≡◌, ◌∷◌, ◌+◌, ◌*◌, ◌/◌, ◌%◌, ◌^◌, ◌≤◌, ◌<◌, leb, length, take, drop};
 ghost use Rattle.machine.specs.Step.{kinds};
 ghost use Rattle.machine.specs.Bytes.{marking};
@@ -15,14 +17,14 @@ ghost use Rattle.parse.specs.Marked.{Marked};
 
 // The form of the step that a line's first word names, 0 where it names none, and where the word ends. A form is the kind of
 // step and, times 32, how many numbers it takes, `STRING` for a byte string.
-#[derive(Drop)]
+#[derive(Clone, Copy)]
 struct Word {
     form: u8,
     end: usize,
 }
 
 // A number in a line and where it ends; where there is no number it ends where it starts.
-#[derive(Drop)]
+#[derive(Clone, Copy)]
 struct Number {
     value: u64,
     end: usize,

@@ -1,7 +1,6 @@
 -- What of the machine depends on where processes are: its records by whether they sleep on their waitr, and its locks by their waiters.
-use Rattle.std.specs.Prelude.{◌≡◌, refl, Bool, List, map, ℕ, ◌+◌, ◌*◌, eqb}
+use Rattle.std.specs.Prelude.{if◌then◌else◌, ◌≡◌, refl, Bool, List, map, ℕ, ◌+◌, ◌*◌, eqb}
 use Rattle.std.proofs.Common.{ap}
-use Rattle.machine.specs.Basics.{if◌then◌else◌}
 use Rattle.machine.specs.Machine.{Process, Lock, free}
 use Rattle.layout.specs.Memory.{Memory}
 use Rattle.state.specs.Fields as fields

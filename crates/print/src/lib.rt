@@ -1,4 +1,6 @@
 // A line of the listing, written into a lent buffer: step, answer, running pid or 0, run queue or -, asleep, ticks.
+#![tactic(auto)]
+
 ghost use Rattle.std.specs.Prelude.{◌∷◌, [], ◌++◌, ◌+◌, length};
 ghost use Rattle.machine.specs.Message.{decimal};
 ghost use Rattle.machine.specs.Outcome as machine;

@@ -1,8 +1,7 @@
 -- Only `wait` and `sched` tell a message.
-use Rattle.std.specs.Prelude.{◌≡◌, refl, Bool, true, false, not, ℕ}
+use Rattle.std.specs.Prelude.{if◌then◌else◌, ◌≡◌, refl, Bool, true, false, not, ℕ}
 use Rattle.std.proofs.Common.{true≢false}
 use Rattle.std.proofs.Math.Option.{Option, none, some}
-use Rattle.machine.specs.Basics.{if◌then◌else◌}
 use Rattle.machine.specs.Flags.{has, RFPROC, RFNOWAIT}
 use Rattle.machine.specs.Machine.{Machine, condition, lock}
 use Rattle.machine.specs.Outcome.{Answer, Reply, answer, refused, Outcome, open_outcome}

@@ -1,4 +1,6 @@
 // Any one of the nineteen steps, on a state that is known to be well formed.
+#![tactic(auto)]
+
 ghost use Rattle.machine.specs.Bytes.{decode};
 ghost use Rattle.machine.specs.Step.{start, rfork, name, sleep, wakeup, qlock, canqlock, qunlock, cond, tdel};
 ghost use Rattle.decode.specs.Means.{tsleep_of, tadd_of};

@@ -1,4 +1,6 @@
 // The step by which a process goes, and its parent is told.
+#![tactic(auto)]
+
 ghost use Rattle.std.specs.Prelude.{false};
 ghost use Rattle.waitq.specs.Added.{AddAsks};
 ghost use Rattle.proc_exit.specs.Cell.{NoCellAsks, NoCellIs};

@@ -1,7 +1,7 @@
 -- A process has no more living children than there are records.
-use Rattle.std.specs.Prelude.{Bool, true, false, List, [], ◌∷◌, ℕ, ◌≤◌, length}
+use Rattle.std.specs.Prelude.{if◌then◌else◌, Bool, true, false, List, [], ◌∷◌, ℕ, ◌≤◌, length}
 use Rattle.std.proofs.Common.{arith}
-use Rattle.machine.specs.Basics.{if◌then◌else◌, count_that}
+use Rattle.machine.specs.Basics.{count_that}
 use Rattle.machine.specs.Machine.{Machine}
 use Rattle.machine.specs.Good.{children}
 

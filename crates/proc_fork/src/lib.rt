@@ -1,4 +1,6 @@
 // The steps of a running process that name it, and that make its child.
+#![tactic(auto)]
+
 ghost use Rattle.std.specs.Prelude.{true, false, ◌≤◌, ◌<◌, length};
 ghost use Rattle.proc_fork.specs.Pad.{Padded};
 ghost use Rattle.proc_fork.specs.Name.{NameStepAsks, NameTook};

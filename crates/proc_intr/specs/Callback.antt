@@ -1,7 +1,6 @@
 -- What a timer does when it fires.
-use Rattle.std.specs.Prelude.{◌≡◌, refl, List, ℕ, ◌-◌, ◌≤◌, ◌<◌, eqb, ltb}
+use Rattle.std.specs.Prelude.{if◌then◌else◌, ◌≡◌, refl, List, ℕ, ◌-◌, ◌≤◌, ◌<◌, eqb, ltb}
 use Rattle.std.proofs.Common.{sym, ap, ◌∙◌, arith, ne_eqb, lt-ltb, le-ltb}
-use Rattle.machine.specs.Basics.{if◌then◌else◌}
 use Rattle.machine.specs.Machine.{Machine, Setting, process, setting}
 use Rattle.machine.specs.Places.{wake}
 use Rattle.machine.specs.Timers.{twakeup, callback}

@@ -1,8 +1,7 @@
 -- The timer of a `tsleep` wakes whoever is on the Rendez that the call names.
-use Rattle.std.specs.Prelude.{◌≡◌, refl, Bool, true, false, List, ℕ, ◌<◌, eqb}
+use Rattle.std.specs.Prelude.{if◌then◌else◌, ◌≡◌, refl, Bool, true, false, List, ℕ, ◌<◌, eqb}
 use Rattle.std.proofs.Common.{sym, ap, subst, ◌∙◌, arith, ne_eqb}
 use Rattle.lists.specs.Lists.{each-get}
-use Rattle.machine.specs.Basics.{if◌then◌else◌}
 use Rattle.machine.specs.Machine.{Machine, Resume, nothing, in_sleep, in_tsleep, in_qlock, in_wait, process, free}
 use Rattle.machine.specs.Places.{wake}
 use Rattle.machine.specs.Timers.{twakeup}

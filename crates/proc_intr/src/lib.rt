@@ -1,4 +1,6 @@
 // `intr`: every timer that is due at a reading of the clock fires, as timer.rs does at an interrupt.
+#![tactic(auto)]
+
 ghost use Rattle.machine.specs.Step.{intr};
 ghost use Rattle.outcome.specs.Stepped.{Well};
 ghost use Rattle.proc_intr.specs.Twakeup.{TwakeupAsks, Twoken};

@@ -1,8 +1,7 @@
 -- A woken sleeper checks again: what the code shows at each return.
-use Rattle.std.specs.Prelude.{◌≡◌, refl, Bool, true, false, not, List, [], ℕ, ◌+◌, ◌<◌}
+use Rattle.std.specs.Prelude.{if◌then◌else◌, ◌≡◌, refl, Bool, true, false, not, List, [], ℕ, ◌+◌, ◌<◌}
 use Rattle.std.proofs.Common.{sym, ap, subst, ◌∙◌, arith}
 use Rattle.std.proofs.lemmas.Bool.{not-true, not-false}
-use Rattle.machine.specs.Basics.{if◌then◌else◌}
 use Rattle.machine.specs.Machine.{Machine, pid_of, condition}
 use Rattle.machine.specs.Outcome.{Answer, Outcome, answer}
 use Rattle.machine.specs.Timers.{delete, is_queued, own_timer}

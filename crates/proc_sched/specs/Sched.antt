@@ -1,9 +1,8 @@
 -- sched: what the code shows at each return.
-use Rattle.std.specs.Prelude.{◌≡◌, Bool, true, List, [], ◌++◌, ℕ, suc, ◌-◌, ◌≤◌, eqb, length, drop}
+use Rattle.std.specs.Prelude.{if◌then◌else◌, ◌≡◌, Bool, true, List, [], ◌++◌, ℕ, suc, ◌-◌, ◌≤◌, eqb, length, drop}
 use Rattle.std.proofs.Math.Path.{refl, ap}
 use Rattle.std.proofs.Common.{sym, subst, ◌∙◌, arith, eq-eqb, ne_eqb}
 use Rattle.std.proofs.Math.Bool.{false}
-use Rattle.machine.specs.Basics.{if◌then◌else◌}
 use Rattle.machine.specs.Machine.{Machine, asleep}
 use Rattle.machine.specs.Step.{sched}
 use Rattle.machine.specs.Outcome.{Answer, Outcome, answer, answered, open_outcome}

@@ -1,7 +1,6 @@
 -- A turn of the scheduler as the definition has it.
-use Rattle.std.specs.Prelude.{◌≡◌, refl, List, [], ◌∷◌, ℕ, ◌+◌, eqb}
+use Rattle.std.specs.Prelude.{if◌then◌else◌, ◌≡◌, refl, List, [], ◌∷◌, ℕ, ◌+◌, eqb}
 use Rattle.std.proofs.Common.{ap}
-use Rattle.machine.specs.Basics.{if◌then◌else◌}
 use Rattle.machine.specs.Machine as machine
 use Rattle.machine.specs.Machine.{Machine, process, sleeper, condition, asleep}
 use Rattle.machine.specs.Table.{taken, taken_again}

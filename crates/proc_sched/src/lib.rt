@@ -1,4 +1,6 @@
 // One turn of the scheduler: the first of the run queue is dispatched, and goes on where its call left off.
+#![tactic(auto)]
+
 ghost use Rattle.std.specs.Prelude.{false};
 ghost use Rattle.proc_sched.specs.Limbo.{Limbo, Dispatched, RunsOn, AgainAsks, SleptAgain};
 ghost use Rattle.proc_sched.specs.Check.{CheckAsks, Checked, TimedOut, TsleepAsks, TsleepChecked};

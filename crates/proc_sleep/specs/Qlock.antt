@@ -1,8 +1,8 @@
 -- qlock: what the code shows at each return.
-use Rattle.std.specs.Prelude.{◌≡◌, refl, Bool, true, false, not, ◌&&◌, List, [], ◌∷◌, ◌++◌, ℕ, suc, ◌-◌, ◌<◌}
+use Rattle.std.specs.Prelude.{if◌then◌else◌, ◌≡◌, refl, Bool, true, false, not, ◌&&◌, List, [], ◌∷◌, ◌++◌, ℕ, suc, ◌-◌, ◌<◌}
 use Rattle.std.proofs.Common.{sym, ap, subst, ◌∙◌, arith, lt-ltb}
 use Rattle.std.proofs.Math.Option.{none, some}
-use Rattle.machine.specs.Basics.{if◌then◌else◌, is_none}
+use Rattle.machine.specs.Basics.{is_none}
 use Rattle.machine.specs.Machine as machine
 use Rattle.machine.specs.Machine.{Machine, process, lock}
 use Rattle.machine.specs.Step.{qlock}

@@ -1,4 +1,6 @@
 // The steps by which the running process gives up the CPU: yield, sleep, qlock.
+#![tactic(auto)]
+
 ghost use Rattle.std.specs.Prelude.{false};
 ghost use Rattle.outcome.specs.Stepped.{Well};
 ghost use Rattle.proc_sleep.specs.Yield.{Yielded};

@@ -1,4 +1,6 @@
 // The step that makes a process with no parent.
+#![tactic(auto)]
+
 ghost use Rattle.proc_start.specs.Begin.{BeginAsks, Begun};
 ghost use Rattle.proc_start.specs.Start.{Orphan, StartAsks, Started};
 

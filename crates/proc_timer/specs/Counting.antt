@@ -1,11 +1,10 @@
 -- How many counts a duration takes, or the number that it and a reading of the clock meet.
-use Rattle.std.specs.Prelude.{◌≡◌, Bool, true, false, List, ℕ, ◌≤◌, ◌<◌, ltb}
+use Rattle.std.specs.Prelude.{if◌then◌else◌, ◌≡◌, Bool, true, false, List, ℕ, ◌≤◌, ◌<◌, ltb}
 use Rattle.std.proofs.Common.{sym, ap, ◌∙◌, Fits, lt-ltb, le-ltb, eq-eqb, ne_eqb}
 use Rattle.std.proofs.Math.Option.{Option, none, some}
 use Rattle.std.specs.Int.{w64}
 use Rattle.clock.specs.Counts.{counts_of, zero_duration, shorter}
 use Rattle.clock.specs.declared.Duration.{Duration}
-use Rattle.machine.specs.Basics.{if◌then◌else◌}
 use Rattle.machine.specs.Machine.{Machine}
 use Rattle.machine.specs.Table.{bad_now, long_counts}
 use Rattle.state.specs.Abs.{machine_of}

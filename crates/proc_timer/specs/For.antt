@@ -1,8 +1,7 @@
 -- tsleep once its duration is counted: by the condition and the Rendez.
-use Rattle.std.specs.Prelude.{◌≡◌, refl, Bool, true, false, List, [], ℕ, suc, ◌+◌, ◌-◌, ◌≤◌, ◌<◌}
+use Rattle.std.specs.Prelude.{if◌then◌else◌, ◌≡◌, refl, Bool, true, false, List, [], ℕ, suc, ◌+◌, ◌-◌, ◌≤◌, ◌<◌}
 use Rattle.std.proofs.Common.{sym, ap, ◌∙◌, arith}
 use Rattle.std.proofs.Math.Option.{some}
-use Rattle.machine.specs.Basics.{if◌then◌else◌}
 use Rattle.machine.specs.Machine.{Machine, in_tsleep, condition, sleeper}
 use Rattle.machine.specs.Table.{taken}
 use Rattle.machine.specs.Outcome.{Answer, Outcome, answered, open_outcome}

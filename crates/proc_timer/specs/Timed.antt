@@ -1,12 +1,12 @@
 -- tsleep of a process that runs: a number is met, or it goes by the condition and the Rendez.
-use Rattle.std.specs.Prelude.{◌≡◌, refl, Bool, true, false, ◌&&◌, List, ℕ, ◌+◌, eqb}
+use Rattle.std.specs.Prelude.{if◌then◌else◌, ◌≡◌, refl, Bool, true, false, ◌&&◌, List, ℕ, ◌+◌, eqb}
 use Rattle.std.proofs.Common.{sym, ap, subst, ◌∙◌, Fits}
 use Rattle.std.proofs.Math.Bool.{and_false}
 use Rattle.std.proofs.Math.Option.{Option, none, some}
 use Rattle.std.specs.Int.{w8}
 use Rattle.clock.specs.Counts.{counts_of, zero_duration}
 use Rattle.clock.specs.declared.Duration.{Duration}
-use Rattle.machine.specs.Basics.{if◌then◌else◌, is_none}
+use Rattle.machine.specs.Basics.{is_none}
 use Rattle.machine.specs.Machine.{Machine}
 use Rattle.machine.specs.Step.{tsleep, open_step}
 use Rattle.machine.specs.Table.{refusal, taken, bad_now, long_counts, open_table}

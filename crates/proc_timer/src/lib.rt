@@ -1,4 +1,6 @@
 // The steps of timers and the clock: tdel, clock, tadd, tsleep.
+#![tactic(auto)]
+
 ghost use Rattle.std.specs.Prelude.{false};
 ghost use Rattle.machine.specs.Step.{tdel, clock};
 ghost use Rattle.outcome.specs.Stepped.{Well};
@@ -28,7 +30,7 @@ const RELATIVE: u8 = 0;
 const MIN_PERIOD: u32 = 100_000;
 
 // What a duration comes to: counts, or the number of a refusal.
-#[derive(Drop)]
+#[derive(Clone, Copy)]
 enum Counted {
     Counts { counts: u64 },
     Meets { number: u8 },

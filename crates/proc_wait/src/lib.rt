@@ -1,4 +1,6 @@
 // The step by which a process waits for a child's exit.
+#![tactic(auto)]
+
 ghost use Rattle.std.specs.Prelude.{false};
 ghost use Rattle.proc_wait.specs.Copy.{CopyAsks, Copied};
 ghost use Rattle.proc_wait.specs.Sleep.{AloneAsks, WentAsleep};
@@ -35,7 +37,7 @@ fn wait_asleep(s: &mut [u8], z: Sizes, i: Index)
 }
 
 // A child that has exited: its pid, and how long its message is.
-#[derive(Drop)]
+#[derive(Clone, Copy)]
 pub struct Gone {
     pub pid: u64,
     pub length: u8,

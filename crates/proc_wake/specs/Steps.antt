@@ -1,9 +1,9 @@
 -- wakeup, canqlock, qunlock, cond and due: what the code shows at each return.
-use Rattle.std.specs.Prelude.{◌≡◌, refl, Bool, true, false, not, List, [], ◌∷◌, ℕ, suc, ◌-◌, ◌≤◌, ◌<◌, eqb}
+use Rattle.std.specs.Prelude.{if◌then◌else◌, ◌≡◌, refl, Bool, true, false, not, List, [], ◌∷◌, ℕ, suc, ◌-◌, ◌≤◌, ◌<◌, eqb}
 use Rattle.std.proofs.Common.{sym, ap, subst, ◌∙◌, arith, lt-ltb, le-leb}
 use Rattle.std.proofs.Math.Option.{none, some}
 use Rattle.lists.specs.Lists.{bit}
-use Rattle.machine.specs.Basics.{if◌then◌else◌, is_empty}
+use Rattle.machine.specs.Basics.{is_empty}
 use Rattle.machine.specs.Machine.{Machine, Lock, lock}
 use Rattle.machine.specs.Step.{wakeup, canqlock, qunlock, cond, due}
 use Rattle.machine.specs.Table.{refusal, in_range, held_lock}

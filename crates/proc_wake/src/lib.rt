@@ -1,4 +1,6 @@
 // The steps that leave who runs as it is and need nobody to run: wakeup, canqlock, qunlock, cond, due.
+#![tactic(auto)]
+
 ghost use Rattle.machine.specs.Step.{wakeup, canqlock, qunlock, due};
 ghost use Rattle.outcome.specs.Stepped.{Well};
 ghost use Rattle.outcome.specs.Took.{Took};

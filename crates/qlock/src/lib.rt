@@ -1,4 +1,6 @@
 // Locks in the lent state: held or free, with a queue of those who wait.
+#![tactic(auto)]
+
 ghost use Rattle.state.specs.Places.{Wrote};
 ghost use Rattle.qlock.specs.Queue.{LockLong, LockLoaded, lock_stores, EnqueueAsks, Enqueued, LockAsks, Dequeued};
 ghost use Rattle.qlock.specs.Hold.{Tried, HandAsks, Handed, Given};
@@ -85,7 +87,7 @@ pub fn qunlock(s: &mut [u8], z: Sizes, q: Index) -> Index
 }
 
 // What became of a lock that was to be given up.
-#[derive(Drop)]
+#[derive(Clone, Copy)]
 pub enum Unlock {
     NotHeld,
     Free,

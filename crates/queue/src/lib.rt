@@ -1,4 +1,6 @@
 // Queues of processes, first in first out, linked through the field `next` of their records: the run queue, and the waiters of each lock.
+#![tactic(auto)]
+
 ghost use Rattle.queue.specs.List.{IsEmpty};
 ghost use Rattle.queue.specs.Push.{PushAsks, PushDone};
 ghost use Rattle.queue.specs.Pop.{PopAsks, PopDone, popped};
@@ -7,7 +9,7 @@ use state::{Count, Index, Sizes};
 
 // `head` and `tail` are links: 0 for none, and i + 1 for record i. `asleep` counts the sleepers; the functions here leave it as it is. For the
 // waiters of a lock, `head` and `tail` are the lock's, and `asleep` is not used.
-#[derive(Drop)]
+#[derive(Clone, Copy)]
 pub struct RunQueue {
     pub head: Index,
     pub tail: Index,
@@ -15,7 +17,7 @@ pub struct RunQueue {
 }
 
 // What `pop` gives: the link to the process taken off, 0 for none, and the queue after.
-#[derive(Drop)]
+#[derive(Clone, Copy)]
 pub struct Popped {
     pub link: Index,
     pub queue: RunQueue,

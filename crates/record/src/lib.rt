@@ -1,4 +1,6 @@
 // A process record by value: loaded whole from the state, and stored whole.
+#![tactic(auto)]
+
 ghost use Rattle.std.specs.Prelude.{◌≡◌, ◌+◌, ◌*◌, ◌<◌, ◌≤◌, length};
 ghost use Rattle.record.specs.Resumes.{number_of, object_of, condition_of, resume_is};
 ghost use Rattle.state.specs.Places.{Wrote};
@@ -8,7 +10,7 @@ ghost use Rattle.record.specs.Loads.{LoadAsks, Loaded, Named, ResumeLoaded, Ties
 use state::{Count, Index, Sizes};
 
 // Where a switched-out call goes on.
-#[derive(Drop)]
+#[derive(Clone, Copy)]
 pub enum Resume {
     Nothing,
     Sleep { rendez: Index, condition: u8 },
@@ -18,7 +20,7 @@ pub enum Resume {
 }
 
 // A process record. The name is twenty-eight bytes, zero-filled.
-#[derive(Drop)]
+#[derive(Clone, Copy)]
 pub struct Proc {
     pub pid: u64,
     pub parent: u64,
@@ -138,7 +140,7 @@ pub fn load_resume(s: &[u8], z: Sizes, i: Index) -> Resume
 }
 
 // The links of a record.
-#[derive(Drop)]
+#[derive(Clone, Copy)]
 struct Ties {
     next: Index,
     older: Index,

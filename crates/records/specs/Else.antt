@@ -1,7 +1,7 @@
 -- Memories that differ in the record of one process, in the links of age and in the words of records in use, and how they come about.
-use Rattle.std.specs.Prelude.{◌≡◌, refl, Bool, true, false, List, [], ◌∷◌, ℕ, ◌+◌, ◌*◌, ◌<◌, eqb, length}
+use Rattle.std.specs.Prelude.{if◌then◌else◌, ◌≡◌, refl, Bool, true, false, List, [], ◌∷◌, ℕ, ◌+◌, ◌*◌, ◌<◌, eqb, length}
 use Rattle.std.proofs.Common.{sym, ap, ◌∙◌, arith, eqb-true}
-use Rattle.machine.specs.Basics.{if◌then◌else◌, elem}
+use Rattle.machine.specs.Basics.{elem}
 use Rattle.layout.specs.Memory.{Memory, alter, set_field, upd}
 use Rattle.chain.specs.Links.{alter-other}
 use Rattle.state.specs.Fields as fields

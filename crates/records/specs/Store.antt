@@ -1,8 +1,8 @@
 -- A record stored whole, with the links that it had: what that makes of the memory and of the process.
-use Rattle.std.specs.Prelude.{◌≡◌, refl, Bool, true, false, List, ◌++◌, ℕ, ◌*◌, ◌≤◌, ◌<◌, eqb, length}
+use Rattle.std.specs.Prelude.{if◌then◌else◌, ◌≡◌, refl, Bool, true, false, List, ◌++◌, ℕ, ◌*◌, ◌≤◌, ◌<◌, eqb, length}
 use Rattle.std.proofs.Common.{sym, ap, subst, ◌∙◌, arith, eqb-true}
 use Rattle.std.proofs.Math.Path.{fun_ext}
-use Rattle.machine.specs.Basics.{if◌then◌else◌, elem}
+use Rattle.machine.specs.Basics.{elem}
 use Rattle.layout.specs.Memory.{Memory, set_field, upd, set_same}
 use Rattle.layout.specs.Writes.{Write, updates}
 use Rattle.machine.specs.Machine.{Machine}

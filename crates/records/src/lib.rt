@@ -1,4 +1,6 @@
 // Process records in the lent state: one is taken for a new process, changed, and freed.
+#![tactic(auto)]
+
 ghost use Rattle.std.specs.Prelude.{◌≡◌};
 ghost use Rattle.records.specs.Pid.{NextPidAsks, PidTaken};
 ghost use Rattle.records.specs.OccupyCode.{OccupyAsks, Occupied};

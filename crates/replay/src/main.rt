@@ -1,6 +1,8 @@
 // Replays lists of steps: the listing that the machine gives for each is compared with the one that is kept.
 // Its arguments come in threes: the sizes as P,R,Q,K,C,HZ; a file of steps; the listing that is kept of it. It ends at the first list that does not
 // agree, at sizes of no state, at a file that cannot be read whole or at a rest of arguments, names it, and says how many agreed.
+#![tactic(auto)]
+
 ghost use Rattle.std.specs.Prelude.{◌≡◌, suc, ◌≤◌, ◌<◌, length};
 ghost use Rattle.replay.specs.Replay.{ListAsks, Within};
 
@@ -9,7 +11,7 @@ use listing::Fed;
 use state::Sizes;
 
 // A number read from a text, and where what is behind it and one byte more begins.
-#[derive(Drop)]
+#[derive(Clone, Copy)]
 struct Parsed {
     value: u64,
     next: usize,
@@ -167,7 +169,7 @@ fn big_buffer() -> [u8; 262144]
 }
 
 // What was read of a file: whether that is all of it, and how many bytes.
-#[derive(Drop)]
+#[derive(Clone, Copy)]
 struct Loaded {
     is_whole: bool,
     length: usize,

@@ -1,7 +1,6 @@
 -- The facts that `check` tests, each by one loop or one walk. Together they say that a state in range is well formed.
-use Rattle.std.specs.Prelude.{◌≡◌, Bool, ◌&&◌, reverse, ◌⊎◌, ℕ, zero, suc, ◌+◌, ◌-◌, ◌^◌, ◌≤◌, ◌<◌, eqb, length}
+use Rattle.std.specs.Prelude.{if◌then◌else◌, ◌≡◌, Bool, ◌&&◌, reverse, ◌⊎◌, ℕ, zero, suc, ◌+◌, ◌-◌, ◌^◌, ◌≤◌, ◌<◌, eqb, length}
 use Rattle.clock.specs.Counts.{counts_of}
-use Rattle.machine.specs.Basics.{if◌then◌else◌}
 use Rattle.machine.specs.Machine.{Sizes}
 use Rattle.machine.specs.Good.{Each}
 use Rattle.layout.specs.Memory.{Memory}

@@ -1,7 +1,6 @@
 -- A run of the exported steps: one after another, from bytes that hold them to bytes that hold their answers.
-use Rattle.std.specs.Prelude.{◌≡◌, List, [], ◌∷◌, ◌++◌, ℕ, zero, suc, ◌+◌, ◌≤◌, ◌<◌, ltb, length, take, drop}
+use Rattle.std.specs.Prelude.{if◌then◌else◌, ◌≡◌, List, [], ◌∷◌, ◌++◌, ℕ, zero, suc, ◌+◌, ◌≤◌, ◌<◌, ltb, length, take, drop}
 use Rattle.memory.specs.Le.{le}
-use Rattle.machine.specs.Basics.{if◌then◌else◌}
 use Rattle.step.specs.Words.{Lent, lent}
 use Rattle.step.specs.Exported.{Exported}
 

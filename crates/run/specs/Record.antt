@@ -1,8 +1,7 @@
 -- The words of an answer, written into its record.
-use Rattle.std.specs.Prelude.{◌≡◌, List, ◌⊎◌, ℕ, ◌+◌, ◌-◌, ◌^◌, ◌≤◌, ◌<◌, ltb, length, drop}
+use Rattle.std.specs.Prelude.{if◌then◌else◌, ◌≡◌, List, ◌⊎◌, ℕ, ◌+◌, ◌-◌, ◌^◌, ◌≤◌, ◌<◌, ltb, length, drop}
 use Rattle.std.proofs.Common.{sym, ap, ◌∙◌, inl, inr, arith, lt-ltb, le-ltb, length-drop, get_or-drop, ext_get_or}
 use Rattle.memory.specs.Le.{le, put, length-put, get-put, le-put-same, le-put-other}
-use Rattle.machine.specs.Basics.{if◌then◌else◌}
 use Rattle.step.specs.declared.Words.{Words}
 use Rattle.step.specs.Words.{lent}
 use Rattle.run.specs.Ran.{words_at}

@@ -1,8 +1,7 @@
 -- The steps in bytes, one by one.
-use Rattle.std.specs.Prelude.{◌≡◌, refl, Bool, true, false, List, [], ◌∷◌, ℕ, zero, suc, ◌+◌, ◌*◌, ◌-◌, ◌≤◌, ◌<◌, ltb, length, take, drop}
+use Rattle.std.specs.Prelude.{if◌then◌else◌, ◌≡◌, refl, Bool, true, false, List, [], ◌∷◌, ℕ, zero, suc, ◌+◌, ◌*◌, ◌-◌, ◌≤◌, ◌<◌, ltb, length, take, drop}
 use Rattle.std.proofs.Common.{sym, ap, ap₂, ◌∙◌, arith, add-zero, add-suc, lt-ltb, le-ltb, ltb-true, ltb-false, length-drop, get_or-drop, drop-drop}
 use Rattle.memory.specs.Le.{le}
-use Rattle.machine.specs.Basics.{if◌then◌else◌}
 use Rattle.run.specs.Ran.{first_end, steps_up_to, steps_in}
 
 -- As many as there are bytes are enough.

@@ -1,4 +1,6 @@
 // Runs of steps for callers in C and Rust: many steps on a state that is checked once.
+#![tactic(auto)]
+
 ghost use Rattle.std.specs.Prelude.{◌≡◌, ◌≤◌, length};
 ghost use Rattle.step.specs.After.{WellIn};
 ghost use Rattle.step.specs.Words.{the_words};

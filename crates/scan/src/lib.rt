@@ -1,4 +1,6 @@
 // Whether what the bytes say of the header, the records, the run queue and the locks is right: each function decides one fact.
+#![tactic(auto)]
+
 ghost use Rattle.std.specs.Prelude.{◌≡◌, ℕ, ◌+◌, ◌<◌, ◌≤◌};
 ghost use Rattle.state.specs.Fields as fields;
 ghost use Rattle.state.specs.Places.{sizes_in};
@@ -329,7 +331,7 @@ pub fn up_ok(s: &[u8], z: Sizes) -> bool
 }
 
 // How many records are ready, asleep, and asleep for a lock.
-#[derive(Drop)]
+#[derive(Clone, Copy)]
 pub struct Counts {
     pub ready: Count,
     pub asleep: Count,
@@ -446,7 +448,7 @@ fn member_ok(s: &[u8], z: Sizes, tag: u16, i: Index) -> bool
 }
 
 // Whether a queue is right, and how many stand in it.
-#[derive(Drop)]
+#[derive(Clone, Copy)]
 pub struct Walked {
     pub ok: bool,
     pub count: Count,

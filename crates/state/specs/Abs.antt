@@ -1,8 +1,7 @@
 -- The machine that the bytes of a state hold.
-use Rattle.std.specs.Prelude.{Bool, not, ◌&&◌, List, [], ◌∷◌, map, ℕ, zero, suc, ◌+◌, ◌*◌, eqb}
+use Rattle.std.specs.Prelude.{if◌then◌else◌, Bool, not, ◌&&◌, List, [], ◌∷◌, map, ℕ, zero, suc, ◌+◌, ◌*◌, eqb}
 use Rattle.std.proofs.Math.Option.{Option, none, some}
 use Rattle.memory.specs.Le.{le}
-use Rattle.machine.specs.Basics.{if◌then◌else◌}
 use Rattle.machine.specs.Machine.{Sizes, Resume, nothing, in_sleep, in_tsleep, in_qlock, in_wait, Exit, Process, Machine, free}
 use Rattle.layout.specs.Memory.{Memory, mem}
 use Rattle.chain.specs.Links.{walk}

@@ -1,6 +1,6 @@
 -- When the bytes are a state: what the layout asks of its links, tags and counts, and the rules of the machine that they hold.
-use Rattle.std.specs.Prelude.{◌≡◌, Bool, false, ◌&&◌, ◌||◌, List, [], ◌∷◌, reverse, ℕ, zero, suc, ◌+◌, ◌-◌, ◌*◌, ◌^◌, ◌≤◌, ◌<◌, eqb, ltb, length}
-use Rattle.machine.specs.Basics.{if◌then◌else◌, count}
+use Rattle.std.specs.Prelude.{if◌then◌else◌, ◌≡◌, Bool, false, ◌&&◌, ◌||◌, List, [], ◌∷◌, reverse, ℕ, zero, suc, ◌+◌, ◌-◌, ◌*◌, ◌^◌, ◌≤◌, ◌<◌, eqb, ltb, length}
+use Rattle.machine.specs.Basics.{count}
 use Rattle.machine.specs.Machine.{Sizes, asleep}
 use Rattle.machine.specs.Good.{SizesInRange, Each, Good}
 use Rattle.layout.specs.Memory.{Memory}

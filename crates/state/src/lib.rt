@@ -1,4 +1,6 @@
 // The lent state: where its fields lie, and how they are read and written.
+#![tactic(auto)]
+
 ghost use Rattle.std.specs.Prelude.{◌≡◌, ◌+◌, ◌*◌, ◌<◌, ◌≤◌};
 ghost use Rattle.layout.specs.Table.{slot, stride};
 ghost use Rattle.state.specs.Fields.{layout1};
@@ -10,7 +12,7 @@ pub type Index = u16;
 pub type Count = u16;
 
 // How many records each region has, and the clock's frequency.
-#[derive(Drop)]
+#[derive(Clone, Copy)]
 pub struct Sizes {
     pub processes: Index,
     pub rendez: Index,

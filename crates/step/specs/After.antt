@@ -1,8 +1,7 @@
 -- What a step leaves of the bytes of a well-formed state.
-use Rattle.std.specs.Prelude.{◌≡◌, refl, Bool, true, false, ◌&&◌, List, [], ◌∷◌, ℕ, suc, eqb, length, drop}
+use Rattle.std.specs.Prelude.{if◌then◌else◌, ◌≡◌, refl, Bool, true, false, ◌&&◌, List, [], ◌∷◌, ℕ, suc, eqb, length, drop}
 use Rattle.std.proofs.Common.{sym, ap, subst, subst₂, ◌∙◌, arith}
 use Rattle.std.proofs.Math.Option.{Option, none, some}
-use Rattle.machine.specs.Basics.{if◌then◌else◌}
 use Rattle.machine.specs.Machine as machine
 use Rattle.machine.specs.Machine.{Machine}
 use Rattle.machine.specs.Good.{Good}

@@ -1,4 +1,6 @@
 // The steps for callers in C and Rust, on whatever bytes.
+#![tactic(auto)]
+
 ghost use Rattle.std.specs.Prelude.{◌≡◌};
 ghost use Rattle.step.specs.Words.{lent, the_words, WordsAre};
 ghost use Rattle.step.specs.Exported.{Replied, Exported};
@@ -31,7 +33,7 @@ pub const EXIT: u64 = 42;
 pub const CHILD: u64 = 43;
 
 // An answer in words: what it is, its numbers in the order of the listing, and how long its message is.
-#[derive(Drop)]
+#[derive(Clone, Copy)]
 pub struct Words {
     pub number: u64,
     pub first: u64,

@@ -1,4 +1,6 @@
 // Reads steps from standard input, a step a line, and writes the listing to standard output.
+#![tactic(auto)]
+
 ghost use Rattle.std.specs.Prelude.{◌≤◌, length};
 ghost use Rattle.steps.specs.Chunk.{Asks, ChunkAsks, ChunkTaken};
 ghost use Rattle.steps.specs.Some.{LastTaken, SomeAsks, SomeTaken};
@@ -9,7 +11,7 @@ use listing::Fed;
 use state::Sizes;
 
 // What is left after a chunk: whether to go on, how many bytes of the line begun are held, and the number of the next step.
-#[derive(Drop)]
+#[derive(Clone, Copy)]
 struct Left {
     more: bool,
     have: usize,

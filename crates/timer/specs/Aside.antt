@@ -1,8 +1,8 @@
 -- No group of what a state keeps reads those fields, but the timer queue's.
-use Rattle.std.specs.Prelude.{◌≡◌, refl, Bool, true, false, ◌||◌, List, ◌∷◌, ◌++◌, ℕ, zero, suc, ◌+◌, eqb, length}
+use Rattle.std.specs.Prelude.{if◌then◌else◌, ◌≡◌, refl, Bool, true, false, ◌||◌, List, ◌∷◌, ◌++◌, ℕ, zero, suc, ◌+◌, eqb, length}
 use Rattle.std.proofs.Common.{sym, ap, subst, ◌∙◌}
 use Rattle.std.proofs.Math.Path.{fun_ext}
-use Rattle.machine.specs.Basics.{if◌then◌else◌, numbers_from, concat_map, present}
+use Rattle.machine.specs.Basics.{numbers_from, concat_map, present}
 use Rattle.machine.specs.Machine as machine
 use Rattle.layout.specs.Memory.{Memory}
 use Rattle.layout.specs.Writes.{State}

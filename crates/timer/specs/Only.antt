@@ -1,7 +1,6 @@
 -- The fields of the timers, the clock and the conditions, and memories that differ in no others.
-use Rattle.std.specs.Prelude.{◌≡◌, refl, Bool, true, false, ◌||◌, List, ℕ, T, eqb}
+use Rattle.std.specs.Prelude.{if◌then◌else◌, ◌≡◌, refl, Bool, true, false, ◌||◌, List, ℕ, T, eqb}
 use Rattle.std.proofs.Common.{sym, ap, subst, ◌∙◌, eqb-true}
-use Rattle.machine.specs.Basics.{if◌then◌else◌}
 use Rattle.layout.specs.Memory.{Memory, set_field}
 use Rattle.state.specs.Fields as fields
 use Rattle.state.specs.declared.Sizes.{Sizes}

@@ -1,9 +1,9 @@
 -- Whether a timer is queued.
-use Rattle.std.specs.Prelude.{◌≡◌, refl, Bool, true, false, not, List, [], ◌∷◌, ℕ, ◌+◌, eqb}
+use Rattle.std.specs.Prelude.{if◌then◌else◌, ◌≡◌, refl, Bool, true, false, not, List, [], ◌∷◌, ℕ, ◌+◌, eqb}
 use Rattle.std.proofs.Common.{sym, ap, ◌∙◌, eqb-true, eq-eqb, ne_eqb, arith}
 use Rattle.std.proofs.Math.Option.{Option, none, some}
 use Rattle.std.proofs.lemmas.Bool.{eqb-false}
-use Rattle.machine.specs.Basics.{if◌then◌else◌, is_some, count, first_that}
+use Rattle.machine.specs.Basics.{is_some, count, first_that}
 use Rattle.machine.specs.Machine.{Queued}
 use Rattle.machine.specs.Timers.{is_queued}
 use Rattle.state.specs.Fields as fields

@@ -1,7 +1,6 @@
 -- A timer that fired returns to the queue, if it is periodic; and whether a timer is queued.
-use Rattle.std.specs.Prelude.{◌≡◌, refl, Bool, true, false, List, [], ℕ, zero, suc, ◌+◌, ◌≤◌, ◌<◌, ltb, get_or}
+use Rattle.std.specs.Prelude.{if◌then◌else◌, ◌≡◌, refl, Bool, true, false, List, [], ℕ, zero, suc, ◌+◌, ◌≤◌, ◌<◌, ltb, get_or}
 use Rattle.std.proofs.Common.{sym, ap, subst, ◌∙◌, arith, ne_eqb, ltb-true, ltb-false, lt-ltb, le-ltb}
-use Rattle.machine.specs.Basics.{if◌then◌else◌}
 use Rattle.machine.specs.Machine.{Setting, setting}
 use Rattle.machine.specs.Timers.{period_of, readd}
 use Rattle.layout.specs.Memory.{Memory, Ranged}

@@ -1,8 +1,7 @@
 -- What is used as timers enter the queue and leave it, and that the stores go to it.
-use Rattle.std.specs.Prelude.{◌≡◌, refl, Bool, true, false, ◌||◌, ℕ, zero, suc, ◌<◌, eqb}
+use Rattle.std.specs.Prelude.{if◌then◌else◌, ◌≡◌, refl, Bool, true, false, ◌||◌, ℕ, zero, suc, ◌<◌, eqb}
 use Rattle.std.proofs.Common.{ap, subst, arith, eqb-true, lit<}
 use Rattle.std.proofs.lemmas.Bool.{eqb-false}
-use Rattle.machine.specs.Basics.{if◌then◌else◌}
 use Rattle.layout.specs.Memory.{Memory, alter}
 use Rattle.chain.specs.Links.{alter-same, alter-other}
 use Rattle.state.specs.Fields as fields

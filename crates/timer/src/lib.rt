@@ -1,4 +1,6 @@
 // Timers on the lent state, as timer.rs: one queue by deadline.
+#![tactic(auto)]
+
 ghost use Rattle.timer.specs.Del.{TimerAsks, Deleted};
 ghost use Rattle.timer.specs.Add.{QueueAsks, QueuedAt, Added};
 ghost use Rattle.timer.specs.Pop.{PopAsks};

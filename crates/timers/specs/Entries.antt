@@ -1,8 +1,7 @@
 -- A queue of timers by number, and the machine's queue of timers with their deadlines.
-use Rattle.std.specs.Prelude.{◌≡◌, refl, Bool, true, false, List, [], ◌∷◌, map, ℕ, suc, ltb, leb}
+use Rattle.std.specs.Prelude.{if◌then◌else◌, ◌≡◌, refl, Bool, true, false, List, [], ◌∷◌, map, ℕ, suc, ltb, leb}
 use Rattle.std.proofs.Common.{ap, ap₂, arith, ltb-true, ltb-false, le-leb}
 use Rattle.std.proofs.lemmas.Bool.{lt-leb}
-use Rattle.machine.specs.Basics.{if◌then◌else◌}
 use Rattle.machine.specs.Good.{Each}
 use Rattle.machine.specs.Machine.{Queued}
 use Rattle.machine.specs.Timers.{insert}

@@ -1,8 +1,8 @@
 -- The flags of timers: how often each stands in the queue.
-use Rattle.std.specs.Prelude.{◌≡◌, refl, Bool, true, false, not, List, [], ◌∷◌, ℕ, ◌+◌, eqb, ltb}
+use Rattle.std.specs.Prelude.{if◌then◌else◌, ◌≡◌, refl, Bool, true, false, not, List, [], ◌∷◌, ℕ, ◌+◌, eqb, ltb}
 use Rattle.std.proofs.Common.{sym, subst, ◌∙◌, arith, eqb-true, eq-eqb, ne_eqb}
 use Rattle.std.proofs.lemmas.Bool.{eqb-false}
-use Rattle.machine.specs.Basics.{if◌then◌else◌, count, filter}
+use Rattle.machine.specs.Basics.{count, filter}
 use Rattle.layout.specs.Memory.{Memory, alter}
 use Rattle.chain.specs.Lists.{Absent}
 use Rattle.chain.specs.Ordered.{insert_by}

@@ -1,7 +1,7 @@
 -- The links that the walks find: 0, or to a queued timer.
-use Rattle.std.specs.Prelude.{Bool, true, false, List, [], ◌∷◌, refl, ℕ, zero, suc, ◌<◌, eqb, ltb}
+use Rattle.std.specs.Prelude.{if◌then◌else◌, Bool, true, false, List, [], ◌∷◌, refl, ℕ, zero, suc, ◌<◌, eqb, ltb}
 use Rattle.std.proofs.Common.{arith, eq-eqb}
-use Rattle.machine.specs.Basics.{if◌then◌else◌, count}
+use Rattle.machine.specs.Basics.{count}
 use Rattle.machine.specs.Good.{Each}
 use Rattle.layout.specs.Memory.{Memory}
 use Rattle.chain.specs.Lists.{all_map}

@@ -1,8 +1,8 @@
 -- A number is taken out of a list: where it stands, what is left, and what the links are then.
-use Rattle.std.specs.Prelude.{◌≡◌, refl, Bool, true, false, not, List, [], ◌∷◌, ◌++◌, ◌⊎◌, ℕ, zero, suc, ◌+◌, ◌≤◌, eqb}
+use Rattle.std.specs.Prelude.{if◌then◌else◌, ◌≡◌, refl, Bool, true, false, not, List, [], ◌∷◌, ◌++◌, ◌⊎◌, ℕ, zero, suc, ◌+◌, ◌≤◌, eqb}
 use Rattle.std.proofs.Common.{sym, ap, subst, inl, inr, ⊎_elim, arith, eqb-true, ne_eqb}
 use Rattle.std.proofs.lemmas.Bool.{eqb-false}
-use Rattle.machine.specs.Basics.{if◌then◌else◌, count, filter}
+use Rattle.machine.specs.Basics.{count, filter}
 use Rattle.machine.specs.Good.{Each}
 use Rattle.machine.specs.Machine.{Queued}
 use Rattle.machine.specs.Timers.{remove}

@@ -1,8 +1,8 @@
 -- What `remove` does: to the bytes, to the memory, to the queue, and to the machine's queue.
-use Rattle.std.specs.Prelude.{◌≡◌, refl, Bool, true, false, List, [], ◌∷◌, ◌++◌, ℕ, zero, suc, ◌+◌, ◌-◌, ◌≤◌, ◌<◌, eqb}
+use Rattle.std.specs.Prelude.{if◌then◌else◌, ◌≡◌, refl, Bool, true, false, List, [], ◌∷◌, ◌++◌, ℕ, zero, suc, ◌+◌, ◌-◌, ◌≤◌, ◌<◌, eqb}
 use Rattle.std.proofs.Common.{sym, ap, subst, ◌∙◌, arith, eqb-true}
 use Rattle.std.proofs.Math.Path.{fun_ext}
-use Rattle.machine.specs.Basics.{if◌then◌else◌, count}
+use Rattle.machine.specs.Basics.{count}
 use Rattle.machine.specs.Timers.{remove}
 use Rattle.layout.specs.Table.{slot}
 use Rattle.layout.specs.Memory.{Memory, alter, set_field, set_same, set_twice, Ranged}

@@ -1,4 +1,6 @@
 // The timer queue: timers by deadline, linked from the header's first link.
+#![tactic(auto)]
+
 ghost use Rattle.state.specs.Places.{mem_in, Wrote};
 ghost use Rattle.timers.specs.Find.{TimersIn, Found, DeadlineOf, NextOf};
 ghost use Rattle.timers.specs.Read.{Origin, ReadAsks};

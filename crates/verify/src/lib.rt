@@ -1,4 +1,6 @@
 // Whether bytes are a well-formed state.
+#![tactic(auto)]
+
 ghost use Rattle.std.specs.Prelude.{◌≡◌, ◌≤◌, length};
 ghost use Rattle.state.specs.Places.{sizes_in};
 ghost use Rattle.state.specs.WellFormed.{WellFormed};

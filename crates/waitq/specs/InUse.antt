@@ -1,9 +1,8 @@
 -- What the stores to the wait queues go to: the machine uses it.
-use Rattle.std.specs.Prelude.{◌≡◌, Bool, List, [], ◌∷◌, ℕ, suc, ◌+◌, ◌*◌, ◌/◌, ◌%◌, ◌^◌, ◌≤◌, ◌<◌, eqb, length}
+use Rattle.std.specs.Prelude.{if◌then◌else◌, ◌≡◌, Bool, List, [], ◌∷◌, ℕ, suc, ◌+◌, ◌*◌, ◌/◌, ◌%◌, ◌^◌, ◌≤◌, ◌<◌, eqb, length}
 use Rattle.std.proofs.Math.Path.{refl}
 use Rattle.std.proofs.Common.{ap, arith, lit<}
 use Rattle.std.proofs.Math.Bool.{true, false}
-use Rattle.machine.specs.Basics.{if◌then◌else◌}
 use Rattle.layout.specs.Memory.{Memory}
 use Rattle.layout.specs.Writes.{to}
 use Rattle.chain.specs.Links.{alter-same, alter-other}

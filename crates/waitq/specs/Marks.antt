@@ -1,7 +1,6 @@
 -- The words that say which cells are in use: neither the cells nor the machine read them. And what keeps every group of a state.
-use Rattle.std.specs.Prelude.{◌≡◌, refl, Bool, true, false, List, [], ◌∷◌, map, ℕ, suc, ◌<◌, eqb, length}
+use Rattle.std.specs.Prelude.{if◌then◌else◌, ◌≡◌, refl, Bool, true, false, List, [], ◌∷◌, map, ℕ, suc, ◌<◌, eqb, length}
 use Rattle.std.proofs.Common.{sym, ap, ◌∙◌, arith, eqb-true}
-use Rattle.machine.specs.Basics.{if◌then◌else◌}
 use Rattle.machine.specs.Machine as machine
 use Rattle.machine.specs.Machine.{Process, Exit, process, asleep}
 use Rattle.machine.specs.Update.{with_process, with_exits}

@@ -1,7 +1,7 @@
 -- What `wait_state` asks and ensures, and what its code shows.
-use Rattle.std.specs.Prelude.{◌≡◌, refl, Bool, true, false, List, [], ◌∷◌, map, ℕ, ◌≤◌, ◌<◌, eqb, length}
+use Rattle.std.specs.Prelude.{if◌then◌else◌, ◌≡◌, refl, Bool, true, false, List, [], ◌∷◌, map, ℕ, ◌≤◌, ◌<◌, eqb, length}
 use Rattle.std.proofs.Common.{sym, ◌∙◌, arith, eq-eqb, ne_eqb}
-use Rattle.machine.specs.Basics.{if◌then◌else◌, is_empty}
+use Rattle.machine.specs.Basics.{is_empty}
 use Rattle.machine.specs.Machine.{nothing, in_sleep, in_tsleep, in_qlock, in_wait, process}
 use Rattle.state.specs.Fields as fields
 use Rattle.state.specs.Abs.{resume_of, exit_at, exit_list, machine_of}

@@ -1,4 +1,6 @@
 // The wait queue of a process: its children's exits, newest first, each in a message cell.
+#![tactic(auto)]
+
 ghost use Rattle.state.specs.Places.{Wrote};
 ghost use Rattle.waitq.specs.Stored.{CellThere, RecordThere};
 ghost use Rattle.waitq.specs.Push.{head_stores, Filled};
@@ -119,7 +121,7 @@ pub fn add_exit(s: &mut [u8], z: Sizes, i: Index, pid: u64, name: [u8; 28], stat
 
 // A wait record, as a `wait` meets it: in use, since its process has one that has not returned; no child lives and no exit is there; an exit
 // to take; none, so that the caller sleeps.
-#[derive(Drop)]
+#[derive(Clone, Copy)]
 pub enum WaitState {
     InUse,
     NoChild,

@@ -1,8 +1,7 @@
 -- Loops over all numbers below a bound: counting, summing, and a fact of each.
-use Rattle.std.specs.Prelude.{◌≡◌, refl, Bool, true, false, ℕ, ◌+◌, ◌≤◌, ◌<◌}
+use Rattle.std.specs.Prelude.{if◌then◌else◌, ◌≡◌, refl, Bool, true, false, ℕ, ◌+◌, ◌≤◌, ◌<◌}
 use Rattle.std.proofs.Common.{◌∙◌, add-one, arith}
 use Rattle.std.proofs.lemmas.Bool.{false≢true}
-use Rattle.machine.specs.Basics.{if◌then◌else◌}
 use Rattle.rules.specs.Facts.{count_below}
 use Rattle.rules.specs.Code.{Decides}
 use Rattle.rules.specs.Loop.{yes_of, no_of, Passing, pass_more}

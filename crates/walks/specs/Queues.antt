@@ -1,7 +1,6 @@
 -- The facts on queues that this crate decides together, named as in `Facts`, and what the tests of each group show.
-use Rattle.std.specs.Prelude.{◌≡◌, Bool, true, false, List, ℕ, ◌+◌, ◌<◌, eqb, length}
+use Rattle.std.specs.Prelude.{if◌then◌else◌, ◌≡◌, Bool, true, false, List, ℕ, ◌+◌, ◌<◌, eqb, length}
 use Rattle.std.proofs.Common.{sym, ◌∙◌}
-use Rattle.machine.specs.Basics.{if◌then◌else◌}
 use Rattle.machine.specs.Machine as machine
 use Rattle.layout.specs.Memory.{Memory}
 use Rattle.state.specs.Fields as fields

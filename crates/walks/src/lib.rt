@@ -1,4 +1,6 @@
 // Walks and counts of the check: the timers, the exits, and the living by age.
+#![tactic(auto)]
+
 ghost use Rattle.std.specs.Prelude.{◌≡◌, ◌+◌, ◌-◌, ◌<◌, ◌≤◌, ℕ, eqb};
 ghost use Rattle.state.specs.Abs.{is_set};
 ghost use Rattle.state.specs.Fields as fields;
@@ -15,14 +17,14 @@ ghost use Rattle.walks.specs.Queues.{TimerFacts, ExitFacts, AgeFacts, QueueFacts
 use state::{Count, Index, Sizes};
 
 // Whether something holds, and where it does a count.
-#[derive(Drop)]
+#[derive(Clone, Copy)]
 pub struct Counted {
     pub ok: bool,
     pub count: Count,
 }
 
 // The same with a larger count.
-#[derive(Drop)]
+#[derive(Clone, Copy)]
 pub struct Summed {
     pub ok: bool,
     pub count: u32,

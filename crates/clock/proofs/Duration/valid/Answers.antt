@@ -1,0 +1,8 @@
+-- `clock::Duration::valid` meets its contract: the test is the definition.
+use mathlib.Core.Path.{refl}
+use Rattle.clock.specs.Counts.{valid_duration}
+use Rattle.clock.proofs.Duration.valid.Goals as goal
+
+pub returns : goal.returns
+unfolding valid_duration
+returns c = refl

@@ -1,0 +1,7 @@
+-- `memory::load64` meets its contract: `le_split` at two halves of four bytes.
+use Rattle.memory.specs.Le.{le_split}
+use native.Mathlib.Omega.{arith}
+use Rattle.memory.proofs.load64.Goals as goal
+
+pub returns : goal.returns
+returns c = rw (le_split 4 4) (omega arith)
