@@ -55,14 +55,14 @@ module _ {l : Layout} {most : ℕ → ℕ} (ok : Ranges l most) where
       }
 
   pub written : {ns s : List ℕ} → State l most ns s → (ws : List Write) → Writable l most ns ws → mem l ns (writes l ns s ws) ≡ updates (mem l ns s) ws
-  written t [] h = refl
-  written {ns} {s} t (w ∷ ws) h =
-      written (state-store t w.field w.index w.value h.0 h.1) ws h.2
+  written {s = s} t [] h = refl
+  written {ns} {s = s} t (w ∷ ws) h =
+      written {s = store l ns s w.field w.index w.value} (state-store t w.field w.index w.value h.0 h.1) ws h.2
       ∙ ap (λ (m : Memory). updates m ws) (stored t w.field w.index w.value h.0 h.1)
 
   pub state-writes : {ns s : List ℕ} → State l most ns s → (ws : List Write) → Writable l most ns ws → State l most ns (writes l ns s ws)
-  state-writes t [] h = t
-  state-writes t (w ∷ ws) h = state-writes (state-store t w.field w.index w.value h.0 h.1) ws h.2
+  state-writes {s = s} t [] h = t
+  state-writes {ns} {s = s} t (w ∷ ws) h = state-writes {s = store l ns s w.field w.index w.value} (state-store t w.field w.index w.value h.0 h.1) ws h.2
 
 -- Stores after stores.
 pub writes_join : (l : Layout) (ns s : List ℕ) (ws ws' : List Write) → writes l ns s (ws ++ ws') ≡ writes l ns (writes l ns s ws) ws'

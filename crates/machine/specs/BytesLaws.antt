@@ -5,17 +5,8 @@ use Rattle.std.proofs.Math.Option.{some}
 use Rattle.memory.specs.Le.{le}
 use Rattle.machine.specs.Basics.{concat_map}
 use Rattle.machine.specs.Step.{Step, Body, Takes, takes_numbers, takes_bytes, start, rfork, name, sched, yield, sleep, tsleep, wakeup, qlock, canqlock, qunlock, cond, clock, tadd, tdel, intr, due, exit, wait, Fields, numbers, bytes, kinds, fill, word_of, fields_of}
+use Rattle.machine.specs.Encodable.{AllBelow, Encodable}
 use Rattle.machine.specs.Bytes.{bytes_of, kind_number, encode_fields, encode, numbers_at, decode_form, decode_body, marking, decode}
-
--- Each of some numbers is below n. What can be encoded: fields below 2^64, and a byte string shorter than 2^32 bytes.
-abbrev pub AllBelow : ℕ → List ℕ → Type 0
-AllBelow n [] = Unit {0}
-AllBelow n (x ∷ xs) = (x < n) × AllBelow n xs
-
--- Fields that can be encoded.
-abbrev pub Encodable : Fields → Type 0
-Encodable (numbers xs) = AllBelow (2 ^ 64) xs
-Encodable (bytes bs) = length bs < 2 ^ 32
 
 -- A number in the bytes behind another list is the number there.
 le_skip : (n : ℕ) (pre s : List ℕ) (at : ℕ) → le n (pre ++ s) (length pre + at) ≡ le n s at

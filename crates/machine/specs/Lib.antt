@@ -9,11 +9,13 @@ pub mod Flags
 pub mod Places
 pub mod Exits
 pub mod Timers
+pub mod NoneDue
 pub mod TimersLaws
 pub mod Table
 pub mod Perform
 pub mod StepOf
 pub mod Bytes
+pub mod Encodable
 pub mod BytesLaws
 pub mod Parse
 pub mod Print

@@ -6,12 +6,8 @@ use Rattle.std.proofs.lemmas.Bool.{eqb-false}
 use Rattle.machine.specs.Machine.{Machine, Queued, Resume, nothing, in_sleep, in_tsleep, in_qlock, in_wait, process, setting, sleeper}
 use Rattle.machine.specs.Update.{with_ticks, with_queued, with_run, with_sleeper}
 use Rattle.machine.specs.Places.{Woken, ready, wake}
+use Rattle.machine.specs.NoneDue.{NoneDue}
 use Rattle.machine.specs.Timers.{insert, twakeup, callback, period_of, readd, Firing, fire, fire_due, firings_owed, interrupt}
-
--- The head of a queue, if any, has a deadline after the reading.
-abbrev pub NoneDue : ℕ → List Queued → Type 0
-NoneDue now [] = Unit {0}
-NoneDue now (x ∷ xs) = now < x.deadline
 
 -- An inserted timer owes its own firings, and the others theirs.
 owed-insert : (now : ℕ) (t : Queued) (xs : List Queued) → firings_owed now (insert t xs) ≡ (suc now - t.deadline) + firings_owed now xs
