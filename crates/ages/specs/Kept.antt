@@ -13,7 +13,7 @@ use Rattle.state.specs.Places.{sizes_in, mem_in}
 use Rattle.state.specs.WellFormed.{Used, age_list, Rising, Ages}
 use Rattle.state.specs.declared.Sizes.{Sizes}
 use Rattle.rules.specs.Code.{Whole}
-use Rattle.exact.specs.FactsGood.{rising-apart}
+use Rattle.exact.proofs.FactsGood.{rising-apart}
 use Rattle.exact.specs.Resumes.{set_test, unset_test, test_set}
 use Rattle.exact.specs.Sums.{bit-true}
 use Rattle.holds.specs.Holds.{Holds}

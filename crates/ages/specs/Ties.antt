@@ -7,7 +7,7 @@ use Rattle.layout.specs.Table.{field}
 use Rattle.layout.specs.Memory.{Memory, alter, upd, set_field, set_same, set_twice, Ranged}
 use Rattle.layout.specs.Writes.{State, Write, to, writes, updates, Writable, written, state-writes}
 use Rattle.state.specs.Fields as fields
-use Rattle.state.specs.Ranges.{ranges}
+use Rattle.state.proofs.Ranges.{ranges}
 use Rattle.state.specs.Places.{sizes_in, total_in, mem_in, PutIn, Wrote, wrote-more}
 use Rattle.state.specs.declared.Sizes.{Sizes}
 use Rattle.rules.specs.Code.{Whole}

@@ -6,7 +6,7 @@ use Rattle.machine.specs.Good.{Each}
 use Rattle.layout.specs.Memory.{Memory, alter}
 use Rattle.layout.specs.Writes.{State, Write, updates, Writable, written, state-writes}
 use Rattle.state.specs.Fields as fields
-use Rattle.state.specs.Ranges.{ranges}
+use Rattle.state.proofs.Ranges.{ranges}
 use Rattle.state.specs.Abs.{machine_of}
 use Rattle.state.specs.Places.{sizes_in, mem_in, Wrote}
 use Rattle.state.specs.declared.Sizes.{Sizes}

@@ -11,4 +11,3 @@ pub mod Index
 pub mod Every
 pub mod Uses
 pub mod Bytes
-pub mod Determined

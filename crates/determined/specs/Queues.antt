@@ -8,7 +8,7 @@ use Rattle.layout.specs.Memory.{Memory}
 use Rattle.state.specs.Fields as fields
 use Rattle.state.specs.Abs.{run_list, waiter_list, timer_list, machine_of}
 use Rattle.state.specs.WellFormed.{Used, is_linked}
-use Rattle.exact.specs.FactsGood.{queued_at, timers-back}
+use Rattle.exact.proofs.FactsGood.{queued_at, timers-back}
 use Rattle.exact.specs.Resumes.{or_true}
 use Rattle.exact.specs.Sums.{sum-some}
 use Rattle.lists.specs.Lists.{bit, each-count}

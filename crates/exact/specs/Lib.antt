@@ -5,10 +5,5 @@ pub mod Bounds
 pub mod Resumes
 pub mod Parts
 pub mod Spots
-pub mod FactsSpots
-pub mod CellLists
-pub mod FactsRep
-pub mod FactsGood
 pub mod WellSpots
-pub mod WellFacts
 pub mod Exact

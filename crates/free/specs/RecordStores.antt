@@ -6,7 +6,7 @@ use Rattle.layout.specs.Table.{slot}
 use Rattle.layout.specs.Memory.{Memory, alter, set_field, set_same, In, Ranged}
 use Rattle.layout.specs.Writes.{updates, Writable, written, stored, state-writes}
 use Rattle.state.specs.Fields as fields
-use Rattle.state.specs.Ranges.{ranges}
+use Rattle.state.proofs.Ranges.{ranges}
 use Rattle.state.specs.Places.{sizes_in, mem_in, PutIn, wrote-more}
 use Rattle.state.specs.declared.Sizes.{Sizes}
 use Rattle.free.specs.Asks.{StateIn, writes_in}

@@ -7,7 +7,7 @@ use Rattle.layout.specs.Memory.{Memory}
 use Rattle.layout.specs.Writes.{State, Write, to, writes, updates, Writable, written, state-writes, writes_join}
 use Rattle.state.specs.Fields as fields
 use Rattle.state.specs.Abs.{machine_of}
-use Rattle.state.specs.Ranges.{ranges}
+use Rattle.state.proofs.Ranges.{ranges}
 use Rattle.state.specs.Places.{sizes_in, mem_in, PutIn, Wrote, wrote-more}
 use Rattle.state.specs.declared.Sizes.{Sizes}
 use Rattle.holds.specs.Holds.{Keeps, Holds}

@@ -8,7 +8,7 @@ use Rattle.layout.specs.Place.{inside-at, below_total}
 use Rattle.layout.specs.Memory.{Memory, store, write, In}
 use Rattle.layout.specs.Writes.{Write, writes_join, length-writes}
 use Rattle.state.specs.Fields as fields
-use Rattle.state.specs.Ranges.{ranges}
+use Rattle.state.proofs.Ranges.{ranges}
 use Rattle.state.specs.Places.{sizes_in, mem_in, total_in}
 use Rattle.state.specs.WellFormed.{Idle}
 use Rattle.state.specs.declared.Sizes.{Sizes}

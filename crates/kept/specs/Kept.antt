@@ -18,30 +18,6 @@ use Rattle.kept.specs.Simple.{kept-cond, kept-due, kept-tdel, kept-wakeup, kept-
 use Rattle.kept.specs.Sleeping.{kept-qlock, kept-sleep, kept-tsleep, kept-wait}
 use Rattle.kept.specs.Sched.{kept-sched}
 use Rattle.kept.specs.Making.{kept-start, kept-rfork}
-use Rattle.kept.specs.Exiting.{kept-exit}
-use Rattle.kept.specs.Firings.{kept-intr}
-
--- A step that is done.
-kept : (m : Machine) (k : Bool) (b : Body) → refusal m (step k b) ≡ none → Fine none [] m → Fine none [] (perform b m).after
-kept m k (start M) e f = kept-start m k M e f
-kept m k (rfork F M) e f = kept-rfork m k F M e f
-kept m k (name BYTES) e f = kept-name m k BYTES e f
-kept m k sched e f = kept-sched m k e f
-kept m k yield e f = kept-yield m k e f
-kept m k (sleep R C) e f = kept-sleep m k R C e f
-kept m k (tsleep R C S N NOW) e f = kept-tsleep m k R C S N NOW e f
-kept m k (wakeup R) e f = kept-wakeup m R f
-kept m k (qlock Q) e f = kept-qlock m k Q e f
-kept m k (canqlock Q) e f = kept-canqlock m k Q e f
-kept m k (qunlock Q) e f = kept-qunlock m k Q e f
-kept m k (cond C v) e f = kept-cond m C v f
-kept m k (clock NOW) e f = kept-clock m k NOW e f
-kept m k (tadd T KIND S N R NOW) e f = kept-tadd m k T KIND S N R NOW e f
-kept m k (tdel T) e f = kept-tdel m T f
-kept m k (intr NOW) e f = kept-intr m k NOW e f
-kept m k due e f = kept-due m f
-kept m k (exit BYTES) e f = kept-exit m k BYTES e f
-kept m k wait e f = kept-wait m k e f
 
 -- The body for which 11 raises the next pid is an rfork whose page copy fails.
 pub copy_fails : (b : Body) → on 2 "rfork" (λ F M. eqb M 3) b ≡ true → (F : ℕ) × (b ≡ rfork F 3)
@@ -74,7 +50,7 @@ raises m k F e f =
     fine-next m f (omega (arith, pid-left m k (rfork F 3) (earlier m (step k (rfork F 3)) 11 e 16 refl) (rw h), f.next.1))
 
 -- A step that is refused.
-left : (m : Machine) (k : Bool) (b : Body) (n : ℕ) → refusal m (step k b) ≡ some n → Fine none [] m → Fine none [] (left_by n b m)
+pub left : (m : Machine) (k : Bool) (b : Body) (n : ℕ) → refusal m (step k b) ≡ some n → Fine none [] m → Fine none [] (left_by n b m)
 unfolding left_by
 left m k b n e f = go (eqb n 11 && on 2 "rfork" (λ F M. eqb M 3) b) refl
   where
@@ -84,18 +60,3 @@ left m k b n e f = go (eqb n 11 && on 2 "rfork" (λ F M. eqb M 3) b) refl
         let r : (F : ℕ) × (b ≡ rfork F 3) = copy_fails b (and_right (eqb n 11) (on 2 "rfork" (λ F M. eqb M 3) b) h) in
         let z : n ≡ 11 = eqb-true n 11 (and_left (eqb n 11) (on 2 "rfork" (λ F M. eqb M 3) b) h) in
         raises m k r.0 (subst (λ (x : ℕ). refusal m (step k (rfork r.0 3)) ≡ some x) z (subst (λ (y : Body). refusal m (step k y) ≡ some n) r.1 e)) f
-
--- The law: every step, whatever its fields and mark, done or refused, keeps the machine well formed.
-pub good-step : (m : Machine) (s : Step) → Good m → Good (step_of m s).after
-unfolding step_of refusing
-good-step m s g = go (refusal m s) refl
-  where
-    go : (o : Option ℕ) → refusal m s ≡ o → Good (step_of m s).after
-    go none e = rw (e, step_of) (good (perform s.body m).after (kept m s.marked s.body e (fine m g)))
-    go (some n) e = rw (e, step_of) (good (left_by n s.body m) (left m s.marked s.body n e (fine m g)))
-
--- So does whatever is handed in.
-pub good-outcome : (m : Machine) (s : Option Step) (buffer : ℕ) → Good m → Good (outcome_of m s buffer).after
-unfolding outcome_of refusing
-good-outcome m none buffer g = g
-good-outcome m (some s) buffer g = either (λ (b : Bool). Good (if b then refusing 2 m else step_of m s).after) (ltb buffer 127) g (good-step m s g)

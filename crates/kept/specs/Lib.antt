@@ -12,8 +12,6 @@ pub mod Sleeping
 pub mod Sched
 pub mod Making
 pub mod Messages
-pub mod Exiting
-pub mod Firings
 pub mod Kept
 pub mod Refused
 pub mod Never

@@ -13,7 +13,7 @@ each_take P (suc n) [] h = tt
 each_take P (suc n) (x ∷ xs) h = (h.0, each_take P n xs h.1)
 
 -- Digits are bytes, where the fuel is enough.
-digit-bytes : (fuel n : ℕ) → n ≤ fuel → Each Byte (digits fuel n)
+pub digit-bytes : (fuel n : ℕ) → n ≤ fuel → Each Byte (digits fuel n)
 unfolding digits
 digit-bytes zero n h = (omega arith, tt)
 digit-bytes (suc fuel) n h = go (ltb n 10) refl (λ l. digit-bytes fuel (n / 10) l)
@@ -23,7 +23,7 @@ digit-bytes (suc fuel) n h = go (ltb n 10) refl (λ l. digit-bytes fuel (n / 10)
     go false e rec = rw (e, digits) (each_append Byte (digits fuel (n / 10)) ((48 + n % 10) ∷ []) (rec (omega (arith, ltb-false n 10 e))) (omega arith, tt))
 
 -- A name up to its first zero byte is bytes.
-name-bytes : (bs : List ℕ) → Each Byte bs → Each Byte (up_to_zero bs)
+pub name-bytes : (bs : List ℕ) → Each Byte bs → Each Byte (up_to_zero bs)
 unfolding up_to_zero
 name-bytes [] h = tt
 name-bytes (b ∷ bs) h = either (λ (c : Bool). Each Byte (if c then [] else b ∷ up_to_zero bs)) (eqb b 0) tt (h.0, name-bytes bs h.1)
@@ -48,7 +48,7 @@ cut-length bytes = go (leb (length bytes) 127) refl
     go false e = omega (arith, length-take (move_back bytes 127) bytes, moved_back bytes 127)
 
 -- And they are bytes.
-cut-bytes : (bytes : List ℕ) → Each Byte bytes → Each Byte (cut bytes)
+pub cut-bytes : (bytes : List ℕ) → Each Byte bytes → Each Byte (cut bytes)
 unfolding cut
 cut-bytes bytes h = either (λ (b : Bool). Each Byte (if b then bytes else take (move_back bytes 127) bytes)) (leb (length bytes) 127) h (each_take Byte (move_back bytes 127) bytes h)
 
@@ -58,16 +58,3 @@ unfolding message
 message_length_lem name pid status =
     let all : List ℕ = up_to_zero name ++ ascii " " ++ decimal pid ++ ascii ": " ++ status in
     either (λ (b : Bool). length (if b then [] else cut all) ≤ 127) (is_empty status) (omega arith) (cut-length all)
-
--- A message is bytes, where the name and the status are.
-pub message_bytes_lem : (name : List ℕ) (pid : ℕ) (status : List ℕ) → Each Byte name → Each Byte status → Each Byte (message name pid status)
-unfolding message decimal ascii
-message_bytes_lem name pid status n s =
-    let all : List ℕ = up_to_zero name ++ ascii " " ++ decimal pid ++ ascii ": " ++ status in
-    either (λ (b : Bool). Each Byte (if b then [] else cut all)) (is_empty status) tt
-    (cut-bytes all
-    (each_append Byte (up_to_zero name ++ ascii " " ++ decimal pid ++ ascii ": ") status
-    (each_append Byte (up_to_zero name ++ ascii " " ++ decimal pid) (ascii ": ")
-    (each_append Byte (up_to_zero name ++ ascii " ") (decimal pid) (each_append Byte (up_to_zero name) (ascii " ") (name-bytes name n) (omega arith, tt)) (digit-bytes pid pid (omega arith)))
-    (omega arith, (omega arith, tt)))
-    s))

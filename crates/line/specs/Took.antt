@@ -14,7 +14,7 @@ use Rattle.machine.specs.Outcome.{Outcome}
 use Rattle.machine.specs.StepOf.{outcome_of, refusing}
 use Rattle.machine.specs.Print.{print_line}
 use Rattle.state.specs.declared.Sizes.{Sizes}
-use Rattle.kept.specs.Kept.{good-outcome}
+use Rattle.kept.proofs.Kept.{good-outcome}
 use Rattle.machine.specs.Good.{Good}
 use Rattle.holds.specs.Did.{machine_in}
 use Rattle.decode.specs.declared.Call.{Call}

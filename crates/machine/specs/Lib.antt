@@ -10,13 +10,11 @@ pub mod Places
 pub mod Exits
 pub mod Timers
 pub mod NoneDue
-pub mod TimersLaws
 pub mod Table
 pub mod Perform
 pub mod StepOf
 pub mod Bytes
 pub mod Encodable
-pub mod BytesLaws
 pub mod Parse
 pub mod Print
 pub mod Listing

@@ -13,7 +13,7 @@ use Rattle.layout.specs.Memory.{Memory, mem, Ranged, cell_in_lem}
 use Rattle.layout.specs.Writes.{State, updates, Writable, written, state-writes}
 use Rattle.layout.specs.Zeros.{nothing, mem-zeros, length-zeros}
 use Rattle.state.specs.Fields as fields
-use Rattle.state.specs.Ranges.{ranges}
+use Rattle.state.proofs.Ranges.{ranges}
 use Rattle.state.specs.Abs.{sizes_of}
 use Rattle.make.specs.Fresh.{total_for, fresh_stores, zeroed, fresh_bytes}
 

@@ -2,7 +2,7 @@
 use Rattle.std.specs.Prelude.{if◌then◌else◌, ◌≡◌, refl, Bool, true, false, List, [], ◌∷◌, ◌++◌, ℕ, ◌^◌, ◌<◌, eqb, length}
 use Rattle.std.proofs.Common.{sym, ◌∙◌, arith}
 use Rattle.std.proofs.Math.Option.{Option, none, some}
-use Rattle.machine.specs.BytesLaws.{AllBelow}
+use Rattle.machine.specs.Encodable.{AllBelow}
 use Rattle.machine.specs.Parse.{in_front, first_word, after_space, words_of, number, both, all_numbers, fields_in}
 use Rattle.parse.specs.Values.{number-below}
 

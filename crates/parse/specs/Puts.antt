@@ -5,7 +5,7 @@ use Rattle.std.proofs.Math.Seq.{take-length, paste, paste-zero, paste-suc}
 use Rattle.memory.specs.Le.{put}
 use Rattle.machine.specs.Basics.{concat_map}
 use Rattle.machine.specs.Bytes.{bytes_of}
-use Rattle.machine.specs.BytesLaws.{length_fields}
+use Rattle.machine.proofs.BytesLaws.{length_fields}
 use Rattle.parse.specs.Stores.{drop-behind, put-behind, NumbersAsk, Stored}
 
 -- The bytes of a step with numbers as its fields, and with a byte string.

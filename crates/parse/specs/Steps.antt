@@ -5,7 +5,7 @@ use Rattle.std.proofs.Math.Option.{Option, none, some}
 use Rattle.std.proofs.lemmas.Bool.{eqb-false}
 use Rattle.machine.specs.Step.{Body, Takes, Form, takes_numbers, takes_bytes, Kind, kinds, fill}
 use Rattle.machine.specs.Bytes.{numbers_at, decode_form, decode_body, marking, decode}
-use Rattle.machine.specs.BytesLaws.{length_fields, fields_back, bytes-form}
+use Rattle.machine.proofs.BytesLaws.{length_fields, fields_back, bytes-form}
 use Rattle.machine.specs.Parse.{fields_in, bytes_in, fill_in, body_in}
 use Rattle.parse.specs.Letters.{and_left, and_right}
 use Rattle.parse.specs.Kinds.{form_of, body_as}

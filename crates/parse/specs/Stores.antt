@@ -5,7 +5,7 @@ use Rattle.std.proofs.Math.Seq.{append_snoc, drop-append-add}
 use Rattle.memory.specs.Le.{put, length-put}
 use Rattle.machine.specs.Basics.{concat_map}
 use Rattle.machine.specs.Bytes.{bytes_of}
-use Rattle.machine.specs.BytesLaws.{length_fields}
+use Rattle.machine.proofs.BytesLaws.{length_fields}
 
 -- A number put at a place, in bytes.
 put_is : (n : ℕ) (s : List ℕ) (at v : ℕ) → at + n ≤ length s → put n s at v ≡ take at s ++ bytes_of n v ++ drop (at + n) s

@@ -4,7 +4,7 @@ use Rattle.std.proofs.Common.{sym, ap, subst, ◌∙◌, arith, eqb-true}
 use Rattle.std.proofs.lemmas.Bool.{eqb-false}
 use Rattle.machine.specs.Machine.{Machine, Queued, pid_of}
 use Rattle.machine.specs.Timers.{callback, readd}
-use Rattle.machine.specs.TimersLaws.{NoneDue}
+use Rattle.machine.specs.NoneDue.{NoneDue}
 use Rattle.machine.specs.Good.{Good}
 use Rattle.state.specs.Fields as fields
 use Rattle.state.specs.Abs.{machine_of}

@@ -4,7 +4,7 @@ use Rattle.std.proofs.Common.{sym, ap, ◌∙◌, arith, add-one, le-leb}
 use Rattle.std.proofs.lemmas.Bool.{lt-leb}
 use Rattle.machine.specs.Machine.{Machine, Queued}
 use Rattle.machine.specs.Timers.{Firing, fire, fire_due, interrupt}
-use Rattle.machine.specs.TimersLaws.{NoneDue}
+use Rattle.machine.specs.NoneDue.{NoneDue}
 use Rattle.state.specs.Places.{mem_in}
 use Rattle.state.specs.declared.Sizes.{Sizes}
 use Rattle.holds.specs.Did.{machine_in}

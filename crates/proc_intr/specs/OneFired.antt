@@ -8,12 +8,12 @@ use Rattle.machine.specs.Basics.{count}
 use Rattle.machine.specs.Machine.{Machine, Process, Queued, process, pid_of, free}
 use Rattle.machine.specs.Update.{with_queued}
 use Rattle.machine.specs.Timers.{callback, readd, own_timer, Firing, fire, firings_owed}
-use Rattle.machine.specs.TimersLaws.{fire-owed}
+use Rattle.machine.proofs.TimersLaws.{fire-owed}
 use Rattle.machine.specs.Good.{Good, IsTsleep}
 use Rattle.kept.specs.Fine.{Fine, Clockwork, Tsleeping, fine, good}
 use Rattle.kept.specs.FineLaws.{fine-queued}
 use Rattle.kept.specs.ClockLaws.{clock-tail, own-tail}
-use Rattle.kept.specs.Firings.{fine-fire}
+use Rattle.kept.proofs.Firings.{fine-fire}
 
 -- The head of M's queue was due at a reading, and M' is M after it fired.
 pub record OneFired (M M' : Machine) (reading : ℕ) : Type 0 where

@@ -7,7 +7,7 @@ use Rattle.layout.specs.Memory.{Memory, upd, set_field, set_same}
 use Rattle.layout.specs.Writes.{Write, to, stored, state-store}
 use Rattle.chain.specs.Links.{walk, Queue, pop_last, pop_links, first_link, rest, queue-pop, queue-none, chain-walk, chain_first}
 use Rattle.state.specs.Fields as fields
-use Rattle.state.specs.Ranges.{ranges}
+use Rattle.state.proofs.Ranges.{ranges}
 use Rattle.state.specs.Places.{sizes_in, mem_in, cell_in, ReachIn, PutIn}
 use Rattle.state.specs.declared.Sizes.{Sizes}
 use Rattle.queue.specs.declared.RunQueue.{RunQueue}

@@ -8,7 +8,7 @@ use Rattle.layout.specs.Writes.{Write, to, Writable, written, state-writes}
 use Rattle.chain.specs.Lists.{Absent}
 use Rattle.chain.specs.Links.{walk, Queue, push_links, push_first, queue-push, chain-walk}
 use Rattle.state.specs.Fields as fields
-use Rattle.state.specs.Ranges.{ranges}
+use Rattle.state.proofs.Ranges.{ranges}
 use Rattle.state.specs.Places.{sizes_in, mem_in, ReachIn, PutIn, wrote-more}
 use Rattle.state.specs.declared.Sizes.{Sizes}
 use Rattle.queue.specs.declared.RunQueue.{RunQueue}

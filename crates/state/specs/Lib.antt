@@ -1,6 +1,5 @@
 -- The lent state: its layout, the machine that its bytes hold, and when it is well formed.
 pub mod Fields
-pub mod Ranges
 pub mod Abs
 pub mod Tables
 pub mod WellFormed

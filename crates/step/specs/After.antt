@@ -17,7 +17,7 @@ use Rattle.state.specs.Abs.{sizes_of, memory_of, machine_of, abs}
 use Rattle.state.specs.Places.{sizes_in, mem_in}
 use Rattle.state.specs.WellFormed.{Idle, WellFormed}
 use Rattle.state.specs.declared.Sizes.{Sizes}
-use Rattle.kept.specs.Kept.{good-outcome}
+use Rattle.kept.proofs.Kept.{good-outcome}
 use Rattle.holds.specs.Holds.{Holds}
 use Rattle.holds.specs.Whole.{well-holds, holds-sizes, holds-machine, holds-rep, well-idle}
 use Rattle.holds.specs.Did.{machine_in}

@@ -16,7 +16,7 @@ use Rattle.kept.specs.Refused.{refused_by_lem}
 use Rattle.kept.specs.Total.{numbers, Comes, total-outcome}
 use Rattle.history.specs.History.{Input, Event, gives, history_from, machine_after}
 use Rattle.history.specs.Demand3.{Demand3, PlacesRead}
-use Rattle.history.specs.Proof.{demand3}
+use Rattle.history.proofs.Proved.{demand3}
 use Rattle.state.specs.Fields as fields
 use Rattle.state.specs.Abs.{memory_of, abs}
 use Rattle.state.specs.WellFormed.{WellFormed}

@@ -11,7 +11,7 @@ use Rattle.state.specs.Abs.{sizes_of, memory_of, abs}
 use Rattle.determined.specs.Bytes.{Bytes, bytes-writes, same_bytes}
 use Rattle.holds.specs.Use.{used_in}
 use Rattle.holds.specs.Leftover.{cleared}
-use Rattle.determined.specs.Determined.{determined, used_alike, determined-cleared}
+use Rattle.determined.proofs.Determined.{determined, used_alike, determined-cleared}
 use Rattle.step.specs.Words.{Lent}
 use Rattle.step.specs.After.{After}
 use Rattle.step.specs.Exported.{Exported, formed, malformed}

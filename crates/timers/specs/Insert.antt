@@ -12,7 +12,7 @@ use Rattle.chain.specs.Lists.{Absent}
 use Rattle.chain.specs.Links.{Chain, chain-walk, alter-same}
 use Rattle.chain.specs.Ordered.{insert_by, spot, linked, first_of, chain-insert, Sorted, sorted_insert}
 use Rattle.state.specs.Fields as fields
-use Rattle.state.specs.Ranges.{ranges}
+use Rattle.state.proofs.Ranges.{ranges}
 use Rattle.state.specs.Abs.{timer_list, machine_of}
 use Rattle.state.specs.Places.{sizes_in, mem_in, total_in, PutIn, Wrote, wrote-more, wrote_join}
 use Rattle.state.specs.declared.Sizes.{Sizes}

@@ -11,7 +11,7 @@ use Rattle.chain.specs.Lists.{Absent}
 use Rattle.chain.specs.Links.{Chain, chain-walk}
 use Rattle.chain.specs.Ordered.{Sorted}
 use Rattle.state.specs.Fields as fields
-use Rattle.state.specs.Ranges.{ranges}
+use Rattle.state.proofs.Ranges.{ranges}
 use Rattle.state.specs.Abs.{timer_list}
 use Rattle.state.specs.Places.{sizes_in, mem_in, PutIn, Wrote, wrote_join}
 use Rattle.state.specs.declared.Sizes.{Sizes}

@@ -6,7 +6,7 @@ use Rattle.layout.specs.Table.{slot}
 use Rattle.layout.specs.Memory.{Memory}
 use Rattle.layout.specs.Writes.{State, Write, updates, Writable, written, state-writes}
 use Rattle.state.specs.Fields as fields
-use Rattle.state.specs.Ranges.{ranges}
+use Rattle.state.proofs.Ranges.{ranges}
 use Rattle.state.specs.Places.{sizes_in, total_in, mem_in, ReachIn, Wrote}
 use Rattle.state.specs.WellFormed.{Used, Cells}
 use Rattle.state.specs.declared.Sizes.{Sizes}

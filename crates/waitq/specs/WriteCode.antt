@@ -10,7 +10,7 @@ use Rattle.layout.specs.Table.{slot}
 use Rattle.layout.specs.Memory.{write, Reach, reach-end}
 use Rattle.layout.specs.Writes.{State, writes, Writable, written, state-writes}
 use Rattle.state.specs.Fields as fields
-use Rattle.state.specs.Ranges.{ranges}
+use Rattle.state.proofs.Ranges.{ranges}
 use Rattle.state.specs.Places.{sizes_in, start_in, mem_in, Wrote}
 use Rattle.state.specs.declared.Sizes.{Sizes}
 use Rattle.message.specs.Answers.{MessageWritten}

@@ -1,7 +1,7 @@
 -- `verify::check` meets its contract: by each way out.
 use borrow.Author.Rules.{rules}
 use native.Mathlib.Omega.{arith}
-use Rattle.exact.specs.Exact.{decides-well}
+use Rattle.exact.proofs.Exact.{decides-well}
 use Rattle.state.specs.Places.{sizes_in}
 use Rattle.verify.specs.Ways.{well-long, sizes_wrong, too_short}
 use Rattle.verify.proofs.check.Statement.{statement}

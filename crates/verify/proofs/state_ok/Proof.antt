@@ -1,6 +1,6 @@
 -- `verify::state_ok` meets its contract: by each test in turn.
 use borrow.Author.Rules.{rules}
-use Rattle.exact.specs.Exact.{whole-checked}
+use Rattle.exact.proofs.Exact.{whole-checked}
 use Rattle.verify.proofs.state_ok.Statement.{statement}
 use Rattle.verify.proofs.state_ok.Tie as tie
 use Rattle.rules.specs.Loop.{passed, failed, decides_as}

@@ -1,0 +1,10 @@
+-- `state::get32` meets its contract: the place is within the bytes, and what is read there is the cell.
+use native.Mathlib.Omega.{arith}
+use Rattle.layout.specs.Memory.{reach-end, get_at}
+use Rattle.state.proofs.get32.Goals as goal
+
+pub load32-requires : goal.load32-requires
+load32-requires c = omega (arith, reach-end)
+
+pub returns : goal.returns
+returns c = search get_at

@@ -1,0 +1,10 @@
+-- `state::get64` meets its contract: the place is within the bytes, and what is read there is the cell.
+use native.Mathlib.Omega.{arith}
+use Rattle.layout.specs.Memory.{reach-end, get_at}
+use Rattle.state.proofs.get64.Goals as goal
+
+pub load64-requires : goal.load64-requires
+load64-requires c = omega (arith, reach-end)
+
+pub returns : goal.returns
+returns c = search get_at

@@ -1,0 +1,10 @@
+-- `state::get8` meets its contract: the place is within the bytes, and what is read there is the cell.
+use native.Mathlib.Omega.{arith}
+use Rattle.layout.specs.Memory.{reach-end, get_at}
+use Rattle.state.proofs.get8.Goals as goal
+
+pub load8-requires : goal.load8-requires
+load8-requires c = omega (arith, reach-end)
+
+pub returns : goal.returns
+returns c = search get_at

@@ -1,0 +1,10 @@
+-- `state::set32` meets its contract: the place is within the bytes, and what is put there is the store.
+use native.Mathlib.Omega.{arith}
+use Rattle.layout.specs.Memory.{reach-end, put-at}
+use Rattle.state.proofs.set32.Goals as goal
+
+pub store32-requires : goal.store32-requires
+store32-requires c = omega (arith, reach-end)
+
+pub returns : goal.returns
+returns c = search put-at

@@ -1,0 +1,10 @@
+-- `state::set64` meets its contract: the place is within the bytes, and what is put there is the store.
+use native.Mathlib.Omega.{arith}
+use Rattle.layout.specs.Memory.{reach-end, put-at}
+use Rattle.state.proofs.set64.Goals as goal
+
+pub store64-requires : goal.store64-requires
+store64-requires c = omega (arith, reach-end)
+
+pub returns : goal.returns
+returns c = search put-at
