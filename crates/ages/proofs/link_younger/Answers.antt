@@ -1,0 +1,10 @@
+-- `ages::link_younger` meets its contract: each return cites its law of specs/Ties.antt.
+use Rattle.state.specs.Fields.{younger, oldest}
+use Rattle.ages.specs.Ties.{tied_end, tied_link}
+use Rattle.ages.proofs.link_younger.Goals as goal
+
+pub returns-then-at-eq0 : goal.returns-then-at-eq0
+returns-then-at-eq0 c = search (tied_end younger oldest)
+
+pub returns : goal.returns
+returns c = search (tied_link younger oldest)

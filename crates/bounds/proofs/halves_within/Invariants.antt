@@ -1,0 +1,10 @@
+-- `bounds::halves_within` meets its contract: at each turn the records below i are within.
+use Prim.Native.Nat.{◌-◌}
+use Rattle.bounds.specs.Column.{column, Testing, test_start, test_more, test_no, test_yes}
+use Rattle.bounds.proofs.halves_within.Given as goal
+
+abbrev pub invariant-loop-i : goal.invariant-loop-i
+invariant-loop-i l = Testing l.z l.s (column l.region l.inner 2 l.n l.most) l.i
+
+abbrev pub decreases-loop-i : goal.decreases-loop-i
+decreases-loop-i l = l.n - l.i

@@ -1,0 +1,13 @@
+-- `idle::timers_ok` meets its contract: the timers below t have no link where they are off the queue. The measure is how many are left.
+use mathlib.Core.Path.{refl}
+use Prim.Native.Nat.{◌+◌, ◌-◌}
+use Rattle.rules.specs.Code.{mem_in}
+use Rattle.rules.specs.Loop.{Passing, pass_start, pass_more, pass_end, passed, failed}
+use Rattle.idle.specs.Idle.{TimerIdle}
+use Rattle.idle.proofs.timers_ok.Given as goal
+
+abbrev pub invariant-loop-t : goal.invariant-loop-t
+invariant-loop-t l = Passing (TimerIdle (mem_in l.z l.s)) (l.z.timers + l.z.processes) l.t
+
+abbrev pub decreases-loop-t : goal.decreases-loop-t
+decreases-loop-t l = l.z.timers + l.z.processes - l.t

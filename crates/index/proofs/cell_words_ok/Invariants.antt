@@ -1,0 +1,14 @@
+-- `index::cell_words_ok` meets its contract: the words below w are as computed.
+use Prim.Native.Nat.{◌-◌}
+use Rattle.index.specs.Compare.{Comparing, compare-start, compare-more, compare-no, compare-rest}
+use Rattle.index.specs.Gather.{unused}
+use Rattle.index.specs.Words.{cell_word}
+use Rattle.rules.specs.Code.{mem_in}
+use Rattle.state.specs.Fields.{owner, used_cells}
+use Rattle.index.proofs.cell_words_ok.Given as goal
+
+abbrev pub invariant-loop-w : goal.invariant-loop-w
+invariant-loop-w l = Comparing (mem_in l.z l.s used_cells) (cell_word l.z l.s) 0 l.w
+
+abbrev pub decreases-loop-w : goal.decreases-loop-w
+decreases-loop-w l = l.n - l.w

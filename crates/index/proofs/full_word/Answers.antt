@@ -1,0 +1,18 @@
+-- `index::full_word` meets its contract: the bits from b up have made the word.
+use Rattle.index.specs.Gather.{Gathering, gather_start, gather_small, gather_more}
+use Rattle.index.specs.Words.{full_bit}
+use Rattle.index.specs.Full.{full-end}
+use Rattle.std.proofs.Common.{rules}
+use Rattle.index.proofs.full_word.Goals as goal
+
+pub loop-b-init : goal.loop-b-init
+loop-b-init c = search (gather_start, rules)
+
+pub with_bit-word-requires : goal.with_bit-word-requires
+with_bit-word-requires c = search gather_small
+
+pub loop-b-preserved : goal.loop-b-preserved
+loop-b-preserved c = search gather_more
+
+pub returns : goal.returns
+returns c = search full-end

@@ -1,0 +1,9 @@
+-- `index::with_bit` meets its contract, by the bit.
+use native.Mathlib.Omega.{arith}
+use Rattle.index.proofs.with_bit.Goals as goal
+
+pub returns-then-bit : goal.returns-then-bit
+returns-then-bit c = rw c.if-bit.true
+
+pub returns : goal.returns
+returns c = rw c.if-bit.false (omega arith)

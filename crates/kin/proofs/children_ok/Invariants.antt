@@ -1,0 +1,14 @@
+-- `kin::children_ok` meets its contract: the records below i pass.
+use Prim.Native.Nat.{◌-◌}
+use Rattle.state.specs.Places.{sizes_in}
+use Rattle.rules.specs.Code.{mem_in}
+use Rattle.rules.specs.Loop.{Passing, pass_start}
+use Rattle.kin.specs.Loop.{try_more, try_no, try_yes}
+use Rattle.kin.specs.Kin.{Children}
+use Rattle.kin.proofs.children_ok.Given as goal
+
+abbrev pub invariant-loop-i : goal.invariant-loop-i
+invariant-loop-i l = Passing (Children (sizes_in l.z) (mem_in l.z l.s)) l.z.processes l.i
+
+abbrev pub decreases-loop-i : goal.decreases-loop-i
+decreases-loop-i l = l.z.processes - l.i

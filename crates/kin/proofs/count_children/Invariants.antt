@@ -1,0 +1,12 @@
+-- `kin::count_children` meets its contract: the children below i are counted.
+use Prim.Native.Nat.{◌-◌}
+use Rattle.rules.specs.Code.{mem_in}
+use Rattle.kin.specs.Count.{Counting, count-asks, count-more, count-end}
+use Rattle.kin.specs.Kin.{count-start}
+use Rattle.kin.proofs.count_children.Given as goal
+
+abbrev pub invariant-loop-i : goal.invariant-loop-i
+invariant-loop-i l = Counting (mem_in l.z l.s) l.z.processes l.i l.children
+
+abbrev pub decreases-loop-i : goal.decreases-loop-i
+decreases-loop-i l = l.z.processes - l.i

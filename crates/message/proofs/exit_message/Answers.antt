@@ -1,0 +1,20 @@
+-- `message::exit_message` meets its contract: each way out cites its law of specs/Called.antt.
+use Rattle.message.specs.Called.{part_fits, message-short, message-named, message-done}
+use native.Mathlib.Omega.{arith}
+use lib.Seq.{length-take-le}
+use Rattle.message.proofs.exit_message.Goals as goal
+
+pub returns-then-cell-lt127 : goal.returns-then-cell-lt127
+returns-then-cell-lt127 c = message-short (omega arith)
+
+pub returns-then-name-gt28 : goal.returns-then-name-gt28
+returns-then-name-gt28 c = message-named (omega arith) (omega arith)
+
+pub slice_bounds-write_message-end-2 : goal.slice_bounds-write_message-end-2
+slice_bounds-write_message-end-2 c = search length-take-le
+
+pub write_message-requires : goal.write_message-requires
+write_message-requires c = search part_fits
+
+pub returns : goal.returns
+returns c = search message-done

@@ -1,0 +1,16 @@
+-- `message::write_message` meets its contract: each return cites its law of specs/Answers.antt.
+use Rattle.message.specs.Text.{ends-length}
+use Rattle.message.specs.Answers.{parts_fit, written_none, written-some}
+use Rattle.message.proofs.write_message.Goals as goal
+
+pub returns-then-status-eq0 : goal.returns-then-status-eq0
+returns-then-status-eq0 c = search written_none
+
+pub slice_bounds-front-end : goal.slice_bounds-front-end
+slice_bounds-front-end c = search ends-length
+
+pub cut_len-n-requires : goal.cut_len-n-requires
+cut_len-n-requires c = search parts_fit
+
+pub returns : goal.returns
+returns c = search written-some

@@ -1,0 +1,11 @@
+-- `parse::copy` meets its contract: the first `i` bytes are there. The measure is how many are left.
+use Rattle.parse.specs.Puts.{Copying, copying_start, copying_more, copied}
+use Prim.Native.Nat.{◌-◌}
+use lib.ListN.{length}
+use Rattle.parse.proofs.copy.Given as goal
+
+abbrev pub invariant-loop-i : goal.invariant-loop-i
+invariant-loop-i l = Copying l.text l.initial.out l.out l.i
+
+abbrev pub decreases-loop-i : goal.decreases-loop-i
+decreases-loop-i l = length l.text - l.i

@@ -1,0 +1,6 @@
+-- `parse::put_string` meets its contract: the kind, the mark, the length and the bytes.
+use Rattle.parse.specs.Puts.{text-put}
+use Rattle.parse.proofs.put_string.Goals as goal
+
+pub returns : goal.returns
+returns c = search text-put

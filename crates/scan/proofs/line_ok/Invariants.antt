@@ -1,0 +1,12 @@
+-- `scan::line_ok` meets its contract: n were met, each may stand in the queue, and the next link is `link`.
+use Prim.Native.Nat.{◌-◌}
+use Rattle.rules.specs.Code.{mem_in}
+use Rattle.scan.specs.Lines.{Lining, line-start, line-more, line-long, line-bad, line-tail, line-yes}
+use Rattle.rules.specs.Loop.{passed, failed}
+use Rattle.scan.proofs.line_ok.Given as goal
+
+abbrev pub invariant-loop-link : goal.invariant-loop-link
+invariant-loop-link l = Lining l.z.processes (mem_in l.z l.s) l.tag l.most l.head l.link l.last l.n
+
+abbrev pub decreases-loop-link : goal.decreases-loop-link
+decreases-loop-link l = l.most - l.n

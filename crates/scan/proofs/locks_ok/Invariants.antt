@@ -1,0 +1,12 @@
+-- `scan::locks_ok` meets its contract: the locks below q are right, and `left` waiters are not yet met.
+use native.Mathlib.Omega.{arith}
+use Prim.Native.Nat.{◌-◌}
+use Rattle.rules.specs.Code.{mem_in}
+use Rattle.scan.specs.Locks.{Locking, locking_start, locking_fits, locking_more, locking_bad, locking_yes, locking_no}
+use Rattle.scan.proofs.locks_ok.Given as goal
+
+abbrev pub invariant-loop-q : goal.invariant-loop-q
+invariant-loop-q l = Locking l.z (mem_in l.z l.s) l.queueing l.left l.q
+
+abbrev pub decreases-loop-q : goal.decreases-loop-q
+decreases-loop-q l = l.n - l.q

@@ -1,0 +1,14 @@
+-- `scan::rendez_ok` meets its contract: the Rendez below r are right.
+use mathlib.Core.Path.{refl}
+use native.Mathlib.Omega.{arith}
+use Prim.Native.Nat.{◌-◌}
+use Rattle.rules.specs.Code.{mem_in}
+use Rattle.rules.specs.Facts.{RendezOk}
+use Rattle.rules.specs.Loop.{Passing, pass_start, pass_more, pass_end, passed, failed}
+use Rattle.scan.proofs.rendez_ok.Given as goal
+
+abbrev pub invariant-loop-r : goal.invariant-loop-r
+invariant-loop-r l = Passing (λ k. RendezOk (mem_in l.z l.s) k) l.n l.r
+
+abbrev pub decreases-loop-r : goal.decreases-loop-r
+decreases-loop-r l = l.n - l.r

@@ -1,0 +1,10 @@
+-- `timers::deadline_at` meets its contract: by its law of specs/Read.antt.
+use native.Mathlib.Omega.{arith}
+use Rattle.timers.specs.Read.{record_within, deadline_of}
+use Rattle.timers.proofs.deadline_at.Goals as goal
+
+pub load64-requires : goal.load64-requires
+load64-requires c = omega (arith, record_within)
+
+pub returns : goal.returns
+returns c = search deadline_of

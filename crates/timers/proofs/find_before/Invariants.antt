@@ -1,0 +1,13 @@
+-- `timers::find_before` meets its contract. The invariant: what is left is a chain, its spot is the one looked for, and the key is the deadline
+-- of its first. The measure is the length of what is left.
+use Rattle.timers.specs.Find.{Finding, DeadlineOf, from_link, head_near, find_start, find_step, find_less, find_end, find_stop}
+use Rattle.timers.specs.Read.{read_next}
+use Rattle.state.specs.Places.{mem_in}
+use lib.ListN.{length}
+use Rattle.timers.proofs.find_before.Given as goal
+
+abbrev pub invariant-loop-link : goal.invariant-loop-link
+invariant-loop-link l = Finding l.z (mem_in l.z l.s) l.deadline l.prev l.link × DeadlineOf (mem_in l.z l.s) l.link l.key
+
+abbrev pub decreases-loop-link : goal.decreases-loop-link
+decreases-loop-link l = length (from_link l.z (mem_in l.z l.s) l.link)

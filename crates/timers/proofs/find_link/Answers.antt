@@ -1,0 +1,27 @@
+-- `timers::find_link` meets its contract. The invariant: `link` is passed, and the link before t, behind it, is the one looked for. The measure is
+-- the length of what is behind.
+use Rattle.timers.specs.Seek.{Passed, behind_in, passed_first, passed-step, passed-less, passed-end, passed-stop, front-end, front-stop}
+use Rattle.state.specs.Places.{mem_in}
+use lib.ListN.{length}
+use Rattle.timers.proofs.find_link.Goals as goal
+
+pub returns-then-link-eq0 : goal.returns-then-link-eq0
+returns-then-link-eq0 c = search front-end
+
+pub returns-then-link-mine : goal.returns-then-link-mine
+returns-then-link-mine c = search front-stop
+
+pub loop-z-init : goal.loop-z-init
+loop-z-init c = search passed_first
+
+pub loop-z-smaller : goal.loop-z-smaller
+loop-z-smaller c = search passed-less
+
+pub loop-z-preserved : goal.loop-z-preserved
+loop-z-preserved c = search passed-step
+
+pub returns-then-next-eq0 : goal.returns-then-next-eq0
+returns-then-next-eq0 c = search passed-end
+
+pub returns-then-next-mine : goal.returns-then-next-mine
+returns-then-next-mine c = search passed-stop

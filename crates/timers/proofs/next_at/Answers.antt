@@ -1,0 +1,10 @@
+-- `timers::next_at` meets its contract: by its law of specs/Read.antt.
+use native.Mathlib.Omega.{arith}
+use Rattle.timers.specs.Read.{link-within, next_of}
+use Rattle.timers.proofs.next_at.Goals as goal
+
+pub load16-requires : goal.load16-requires
+load16-requires c = omega (arith, link-within)
+
+pub returns : goal.returns
+returns c = search next_of

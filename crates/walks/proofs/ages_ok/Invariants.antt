@@ -1,0 +1,10 @@
+-- `walks::ages_ok` meets its contract: n of the living were met, the last of them by the link `last`. The measure is how many more there may be.
+use Prim.Native.Nat.{◌-◌}
+use Rattle.walks.specs.Ages.{AgeWalking, age_start, age-more, age_long, age_unlinked, age_low, age_other, age_end}
+use Rattle.walks.proofs.ages_ok.Given as goal
+
+abbrev pub invariant-loop-link : goal.invariant-loop-link
+invariant-loop-link l = AgeWalking l.z l.s l.link l.last l.pid l.n
+
+abbrev pub decreases-loop-link : goal.decreases-loop-link
+decreases-loop-link l = l.z.processes - l.n

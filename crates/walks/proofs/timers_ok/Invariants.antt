@@ -1,0 +1,14 @@
+-- `walks::timers_ok` meets its contract: the timers below t are in order. The measure is how many are left.
+use Prim.Native.Nat.{◌+◌, ◌-◌}
+use Rattle.state.specs.Places.{sizes_in}
+use Rattle.rules.specs.Code.{mem_in}
+use Rattle.rules.specs.Facts.{TimerOk}
+use Rattle.walks.specs.Loops.{all-more, all-no}
+use Rattle.rules.specs.Loop.{Passing, pass_start, pass_end}
+use Rattle.walks.proofs.timers_ok.Given as goal
+
+abbrev pub invariant-loop-t : goal.invariant-loop-t
+invariant-loop-t l = Passing (TimerOk (sizes_in l.z) (mem_in l.z l.s)) (l.z.timers + l.z.processes) l.t
+
+abbrev pub decreases-loop-t : goal.decreases-loop-t
+decreases-loop-t l = l.z.timers + l.z.processes - l.t
