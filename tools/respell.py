@@ -55,14 +55,17 @@ def is_camel(name):
     return re.match(r"^[a-z][\w'₀-₉-]*$", name) and re.search(r"[A-Z]", name) and "-" not in name
 
 
-def from_kit():
-    """Names that come from the kit: they stay."""
+def of_kit(text):
+    """The names that a text takes from the kit."""
     kit = set()
-    for f in ANTT + RT:
-        for path, names in re.findall(r"use ((?:Prim|lib|mathlib|native|borrow|Rattle\.std)[\w.]*)\.\{([^}]*)\}", read(f)):
-            for n in names.split(","):
-                kit |= set(n.split())
+    for _, names in re.findall(r"use ((?:Prim|lib|mathlib|native|borrow|Rattle\.std)[\w.]*)\.\{([^}]*)\}", text):
+        for n in names.split(","):
+            kit |= set(n.split())
     return kit
+
+
+def from_kit():
+    return set().union(*(of_kit(read(f)) for f in ANTT + RT))
 
 
 def declared():
@@ -220,7 +223,9 @@ def main():
     skip = re.compile(COMMENT.pattern + "|" + quoted.pattern)
     for f in ANTT:
         old = read(f)
+        kept = {n: table.pop(n) for n in of_kit(old) if n in table}  # the kit's, of the same spelling as another file's own
         new = pieces(old, skip, lambda s: prose(s) if s.startswith("--") else s)
+        table.update(kept)
         write(f, old, new)
     for f in RT:
         old = read(f)

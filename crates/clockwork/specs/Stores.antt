@@ -3,7 +3,7 @@ use Rattle.std.specs.Prelude.{◌≡◌, refl, Bool, true, List, [], ◌∷◌, 
 use Rattle.std.proofs.Common.{sym, ap, subst, ◌∙◌}
 use Rattle.machine.specs.Machine.{Machine}
 use Rattle.machine.specs.Good.{Each}
-use Rattle.layout.specs.Memory.{Memory, alter}
+use Rattle.layout.specs.Memory.{Memory, alter, set_field}
 use Rattle.layout.specs.Writes.{State, Write, updates, Writable, written, state-writes}
 use Rattle.state.specs.Fields as fields
 use Rattle.state.proofs.Ranges.{ranges}
@@ -32,9 +32,9 @@ only-updates
     → Each (λ (w : Write). test w.field ≡ true) ws
     → Only test m m'
     → Only test m (updates m' ws)
-only-updates [] e o = o
-only-updates {test} {m} {m'} (w ∷ ws) e o =
-    only-updates ws e.1 (only_set w.field (alter (m' w.field) w.index w.value) e.0 o)
+only-updates {m' = m'} [] e o = o
+only-updates {test} {m} {m' = m'} (w ∷ ws) e o =
+    only-updates {m' = set_field m' w.field (alter (m' w.field) w.index w.value)} ws e.1 (only_set w.field (alter (m' w.field) w.index w.value) e.0 o)
 
 -- Stores in range to such fields and to what is used, and what they make of the machine.
 pub became

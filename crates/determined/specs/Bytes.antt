@@ -30,8 +30,8 @@ bytes-put (suc n) at v b = bytes-put n (suc at) (v / 256) (bytes-set at (v % 256
 
 pub bytes-writes : (l : Layout) (ns : List ℕ) {s : List ℕ} (ws : List Write) → Bytes s → Bytes (writes l ns s ws)
 unfolding write
-bytes-writes l ns [] b = b
-bytes-writes l ns (w ∷ ws) b = bytes-writes l ns ws (bytes-put (field l w.field).width (place l ns (field l w.field) w.index) w.value b)
+bytes-writes l ns {s = s} [] b = b
+bytes-writes l ns {s = s} (w ∷ ws) b = bytes-writes l ns {s = put (field l w.field).width s (place l ns (field l w.field) w.index) w.value} ws (bytes-put (field l w.field).width (place l ns (field l w.field) w.index) w.value b)
 
 -- A number of n bytes has its bytes.
 pub le_bytes

@@ -78,6 +78,6 @@ module _ {z : Sizes} {s : List ℕ} {w v : ℕ} {t : Bool} {c y : ℕ} {t₁ : B
       pub three-stores : {s₃ : List ℕ} → t₁ ≡ true → PutIn z s₂ s₃ (slot 0 72 8) 0 u → s₃ ≡ writes_in z s (cell_writes w v t c y t₁ u)
       three-stores d g = rw (e, d) (wrote-more z _ (wrote-more z _ p.bytes q) g)
 
-pub top-range : {z : Sizes} {s : List ℕ} → StateIn z s → mem_in z s fields.full_cells 0 ≤ 18446744073709551615
+pub top-range : (z : Sizes) {s : List ℕ} → StateIn z s → mem_in z s fields.full_cells 0 ≤ 18446744073709551615
 unfolding Ranged
-top-range a = a.ranged fields.full_cells 0
+top-range z a = a.ranged fields.full_cells 0

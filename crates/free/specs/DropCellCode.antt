@@ -60,7 +60,7 @@ module _ {z : Sizes} {s : List ℕ} {i : ℕ} (a : DropCellAsks z s i) where
         index = cell_in_lem z.cells i a.index a.words.sizes.cells.1;
         word = omega (arith, word_set.1);
         above = λ e. omega (arith, (above-set e).1);
-        top = λ e d. omega (arith, top-range a.words.state);
+        top = λ e d. omega (arith, top-range z a.words.state);
       }
 
   drop_by : {s' : List ℕ} → s' ≡ writes_in z s (drop_cell_writes z.cells (mem_in z s) i) → DropCellDone z s s' i

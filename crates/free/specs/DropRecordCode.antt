@@ -44,7 +44,7 @@ module _ {z : Sizes} {s : List ℕ} {i : ℕ} (a : DropRecordAsks z s i) where
       record {
         index = word_in z.processes i 64 a.index a.words.sizes.processes.1;
         word = omega (arith, word_set.1);
-        above = λ e. omega (arith, above-range a.words.state);
+        above = λ e. omega (arith, above-range z a.words.state);
       }
 
   drop_by : {s' : List ℕ} → s' ≡ writes_in z s (drop_record_writes z.processes (mem_in z s) i) → DropRecordDone z s s' i

@@ -26,15 +26,15 @@ pub record CellFound (z : Sizes) (s : List ℕ) (r : ℕ) : Type 0 where
   pub range : r ≤ z.cells
 
 -- An owner is a process.
-owner-range : {z : Sizes} {s : List ℕ} → StateIn z s → (c : ℕ) → mem_in z s fields.owner c ≤ z.processes
+owner-range : (z : Sizes) {s : List ℕ} → StateIn z s → (c : ℕ) → mem_in z s fields.owner c ≤ z.processes
 unfolding Ranged
-owner-range a c = a.ranged fields.owner c
+owner-range z a c = a.ranged fields.owner c
 
 cell-found : {z : Sizes} {s : List ℕ} {r : ℕ} → StateIn z s → link_to r ≡ highest_free z.cells (mem_in z s fields.owner) → r ≤ z.cells → CellFound z s r
 cell-found {z} {s} {r} a e l =
     record {
       link = e;
-      machine = λ x. e ∙ sym (free_cell_lem x (owner-range a));
+      machine = λ x. e ∙ sym (free_cell_lem x (owner-range z a));
       free = λ c d. highest_free_lem z.cells (mem_in z s fields.owner) c (subst (λ (x : ℕ). link_to x ≡ highest_free z.cells (mem_in z s fields.owner)) d e);
       range = l;
     }

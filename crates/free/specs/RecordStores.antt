@@ -57,6 +57,6 @@ module _ {z : Sizes} {s : List ℕ} {w v : ℕ} {t : Bool} {u : ℕ} (r : SizesI
     pub two-stores : {s₂ : List ℕ} → t ≡ true → PutIn z s₁ s₂ (slot 0 64 8) 0 u → s₂ ≡ writes_in z s (record_writes w v t u)
     two-stores e q = rw e (wrote-more z _ p.bytes q)
 
-pub above-range : {z : Sizes} {s : List ℕ} → StateIn z s → mem_in z s fields.full_records 0 ≤ 18446744073709551615
+pub above-range : (z : Sizes) {s : List ℕ} → StateIn z s → mem_in z s fields.full_records 0 ≤ 18446744073709551615
 unfolding Ranged
-above-range a = a.ranged fields.full_records 0
+above-range z a = a.ranged fields.full_records 0

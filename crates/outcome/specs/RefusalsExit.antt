@@ -1,7 +1,7 @@
 -- The number that name, exit and wait meet.
 use Rattle.std.specs.Prelude.{if◌then◌else◌, ◌≡◌, Bool, true, false, not, ◌&&◌, List, ℕ, eqb}
 use Rattle.std.proofs.Common.{◌∙◌}
-use Rattle.std.proofs.Math.Bool.{and_true}
+use Rattle.std.proofs.Math.Bool.{and-true}
 use Rattle.std.proofs.Math.Option.{none, some}
 use Rattle.machine.specs.Basics.{is_none, is_empty}
 use Rattle.machine.specs.Machine.{Machine, Resume, nothing, in_sleep, in_tsleep, in_qlock, in_wait, process}
@@ -16,7 +16,7 @@ module _ (m : Machine) (k : Bool) (BYTES : List ℕ) where
       : refusal m (step k (name BYTES))
       ≡ (if not (in_range m.sizes (name BYTES)) then some 2 else if k then some 3 else if is_none m.up then some 4 else none)
   unfolding open_table open_step
-  refusal-name = refusal-tests m (step k (name BYTES)) ∙ rw (and_true k, and_true (is_none m.up))
+  refusal-name = refusal-tests m (step k (name BYTES)) ∙ rw (and-true k, and-true (is_none m.up))
 
   pub refused-name_3 : in_range m.sizes (name BYTES) ≡ true → k ≡ true → refusal m (step k (name BYTES)) ≡ some 3
   refused-name_3 range marked = refusal-name ∙ rw (range, marked)
@@ -43,7 +43,7 @@ module _ (m : Machine) (k : Bool) (BYTES : List ℕ) where
       else if running (no_cell m) m then some 13
       else none)
   unfolding open_table open_step
-  refusal-exit = refusal-tests m (step k (exit BYTES)) ∙ rw (and_true k, and_true (is_none m.up))
+  refusal-exit = refusal-tests m (step k (exit BYTES)) ∙ rw (and-true k, and-true (is_none m.up))
 
   pub refused-exit_3 : in_range m.sizes (exit BYTES) ≡ true → k ≡ true → refusal m (step k (exit BYTES)) ≡ some 3
   refused-exit_3 range marked = refusal-exit ∙ rw (range, marked)
@@ -87,7 +87,7 @@ module _ (m : Machine) (k : Bool) where
       else if running (no_child m) m then some 15
       else none)
   unfolding open_table open_step
-  refusal-wait = refusal-tests m (step k wait) ∙ rw (and_true k, and_true (is_none m.up))
+  refusal-wait = refusal-tests m (step k wait) ∙ rw (and-true k, and-true (is_none m.up))
 
   pub refused-wait_3 : k ≡ true → refusal m (step k wait) ≡ some 3
   refused-wait_3 marked = refusal-wait ∙ rw marked

@@ -1,7 +1,7 @@
 -- The number that qlock, canqlock and qunlock meet.
 use Rattle.std.specs.Prelude.{if◌then◌else◌, ◌≡◌, Bool, true, false, not, ◌&&◌, ℕ}
 use Rattle.std.proofs.Common.{◌∙◌}
-use Rattle.std.proofs.Math.Bool.{and_false, or_false}
+use Rattle.std.proofs.Math.Bool.{and-false, or-false}
 use Rattle.std.proofs.Math.Option.{none, some}
 use Rattle.machine.specs.Basics.{is_none}
 use Rattle.machine.specs.Machine.{Machine}
@@ -13,7 +13,7 @@ use Rattle.outcome.specs.Refusals.{step, refusal-tests}
 module _ (m : Machine) (k : Bool) (Q : ℕ) where
   pub refusal-canqlock : refusal m (step k (canqlock Q)) ≡ (if not (in_range m.sizes (canqlock Q)) then some 2 else none)
   unfolding open_table open_step
-  refusal-canqlock = refusal-tests m (step k (canqlock Q)) ∙ rw (and_false k, and_false (is_none m.up))
+  refusal-canqlock = refusal-tests m (step k (canqlock Q)) ∙ rw (and-false k, and-false (is_none m.up))
 
   pub allowed-canqlock : in_range m.sizes (canqlock Q) ≡ true → refusal m (step k (canqlock Q)) ≡ none
   allowed-canqlock range = refusal-canqlock ∙ rw range
@@ -23,7 +23,7 @@ module _ (m : Machine) (k : Bool) (Q : ℕ) where
   pub refusal-qunlock
       : refusal m (step k (qunlock Q)) ≡ (if not (in_range m.sizes (qunlock Q)) then some 2 else if not (held_lock m Q) then some 6 else none)
   unfolding open_table open_step
-  refusal-qunlock = refusal-tests m (step k (qunlock Q)) ∙ rw (and_false k, and_false (is_none m.up))
+  refusal-qunlock = refusal-tests m (step k (qunlock Q)) ∙ rw (and-false k, and-false (is_none m.up))
 
   pub refused-qunlock_6 : in_range m.sizes (qunlock Q) ≡ true → held_lock m Q ≡ false → refusal m (step k (qunlock Q)) ≡ some 6
   refused-qunlock_6 range held = refusal-qunlock ∙ rw (range, held)
@@ -40,7 +40,7 @@ module _ (m : Machine) (k : Bool) (Q : ℕ) where
       else if is_none m.up && held_lock m Q then some 4
       else none)
   unfolding open_table open_step
-  refusal-qlock = refusal-tests m (step k (qlock Q)) ∙ rw (or_false (held_lock m Q))
+  refusal-qlock = refusal-tests m (step k (qlock Q)) ∙ rw (or-false (held_lock m Q))
 
   pub refused-qlock_3 : in_range m.sizes (qlock Q) ≡ true → k ≡ true → held_lock m Q ≡ true → refusal m (step k (qlock Q)) ≡ some 3
   refused-qlock_3 range marked held = refusal-qlock ∙ rw (range, marked, held)
@@ -57,4 +57,4 @@ module _ (m : Machine) (k : Bool) (Q : ℕ) where
 
   -- A lock that is not held is taken, whoever runs.
   pub allowed-qlock-free : in_range m.sizes (qlock Q) ≡ true → held_lock m Q ≡ false → refusal m (step k (qlock Q)) ≡ none
-  allowed-qlock-free range held = refusal-qlock ∙ rw (range, held, and_false k, and_false (is_none m.up))
+  allowed-qlock-free range held = refusal-qlock ∙ rw (range, held, and-false k, and-false (is_none m.up))

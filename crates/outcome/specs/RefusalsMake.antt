@@ -1,7 +1,7 @@
 -- The number that start and rfork meet.
 use Rattle.std.specs.Prelude.{if◌then◌else◌, ◌≡◌, Bool, true, false, not, ◌&&◌, ℕ, ◌-◌, ◌^◌, eqb}
 use Rattle.std.proofs.Common.{◌∙◌}
-use Rattle.std.proofs.Math.Bool.{and_false, and_true, or_false}
+use Rattle.std.proofs.Math.Bool.{and-false, and-true, or-false}
 use Rattle.std.proofs.Math.Option.{none, some}
 use Rattle.machine.specs.Basics.{is_none}
 use Rattle.machine.specs.Machine.{Machine}
@@ -22,7 +22,7 @@ module _ (m : Machine) (k : Bool) (M : ℕ) where
       else if not (eqb M 0) then some 11
       else none)
   unfolding open_table open_step
-  refusal-start = refusal-tests m (step k (start M)) ∙ rw (and_true k, and_false (is_none m.up), or_false (not (eqb M 0)))
+  refusal-start = refusal-tests m (step k (start M)) ∙ rw (and-true k, and-false (is_none m.up), or-false (not (eqb M 0)))
 
   pub refused-start_3 : in_range m.sizes (start M) ≡ true → k ≡ true → refusal m (step k (start M)) ≡ some 3
   refused-start_3 range marked = refusal-start ∙ rw (range, marked)
@@ -62,7 +62,7 @@ module _ (m : Machine) (k : Bool) (F M : ℕ) where
       else if has F RFPROC && not (eqb M 0) then some 11
       else none)
   unfolding open_table open_step
-  refusal-rfork = refusal-tests m (step k (rfork F M)) ∙ rw (and_true k, and_true (is_none m.up))
+  refusal-rfork = refusal-tests m (step k (rfork F M)) ∙ rw (and-true k, and-true (is_none m.up))
 
   pub refused-rfork_3 : in_range m.sizes (rfork F M) ≡ true → k ≡ true → refusal m (step k (rfork F M)) ≡ some 3
   refused-rfork_3 range marked = refusal-rfork ∙ rw (range, marked)

@@ -2,7 +2,7 @@
 use Rattle.std.specs.Prelude.{if◌then◌else◌, ◌≡◌, Bool, true, not, ◌&&◌, ◌||◌, ℕ}
 use Rattle.std.proofs.Math.Path.{ap}
 use Rattle.std.proofs.Common.{◌∙◌}
-use Rattle.std.proofs.Math.Bool.{false, and_false, and_true, or_false}
+use Rattle.std.proofs.Math.Bool.{false, and-false, and-true, or-false}
 use mathlib.Core.List.{List, [], ◌∷◌}
 use Rattle.std.proofs.Math.Option.{none, some}
 use Rattle.machine.specs.Basics.{is_some, is_none}
@@ -15,14 +15,14 @@ use Rattle.outcome.specs.Refusals.{step, refusal-tests}
 module _ (m : Machine) (k : Bool) where
   pub refusal-wakeup : (R : ℕ) → refusal m (step k (wakeup R)) ≡ (if not (in_range m.sizes (wakeup R)) then some 2 else none)
   unfolding open_table open_step
-  refusal-wakeup R = refusal-tests m (step k (wakeup R)) ∙ rw (and_false k, and_false (is_none m.up))
+  refusal-wakeup R = refusal-tests m (step k (wakeup R)) ∙ rw (and-false k, and-false (is_none m.up))
 
   pub allowed-wakeup : (R : ℕ) → in_range m.sizes (wakeup R) ≡ true → refusal m (step k (wakeup R)) ≡ none
   allowed-wakeup R range = refusal-wakeup R ∙ rw range
 
   pub refusal-cond : (C v : ℕ) → refusal m (step k (cond C v)) ≡ (if not (in_range m.sizes (cond C v)) then some 2 else none)
   unfolding open_table open_step
-  refusal-cond C v = refusal-tests m (step k (cond C v)) ∙ rw (and_false k, and_false (is_none m.up))
+  refusal-cond C v = refusal-tests m (step k (cond C v)) ∙ rw (and-false k, and-false (is_none m.up))
 
   pub allowed-cond : (C v : ℕ) → in_range m.sizes (cond C v) ≡ true → refusal m (step k (cond C v)) ≡ none
   allowed-cond C v range = refusal-cond C v ∙ rw range
@@ -31,7 +31,7 @@ module _ (m : Machine) (k : Bool) where
 module _ (m : Machine) (k : Bool) where
   pub refusal-yield : refusal m (step k yield) ≡ (if k then some 3 else if is_none m.up then some 4 else none)
   unfolding open_table open_step
-  refusal-yield = refusal-tests m (step k yield) ∙ rw (and_true k, and_true (is_none m.up))
+  refusal-yield = refusal-tests m (step k yield) ∙ rw (and-true k, and-true (is_none m.up))
 
   pub refused-yield_3 : k ≡ true → refusal m (step k yield) ≡ some 3
   refused-yield_3 marked = refusal-yield ∙ rw marked
@@ -46,7 +46,7 @@ module _ (m : Machine) (k : Bool) where
 module _ (m : Machine) (k : Bool) where
   pub refusal-sched : refusal m (step k sched) ≡ (if k then some 3 else if is_some m.up then some 17 else if head_taken m then some 5 else none)
   unfolding open_table open_step
-  refusal-sched = refusal-tests m (step k sched) ∙ rw (and_true k, and_false (is_none m.up))
+  refusal-sched = refusal-tests m (step k sched) ∙ rw (and-true k, and-false (is_none m.up))
 
   pub refused-sched_3 : k ≡ true → refusal m (step k sched) ≡ some 3
   refused-sched_3 marked = refusal-sched ∙ rw marked
@@ -78,7 +78,7 @@ module _ (m : Machine) (R C : ℕ) where
 
   pub taken_free : sleeper m R ≡ none → taken m R C ≡ false
   unfolding taken
-  taken_free e = rw e (and_false (not (condition m C)))
+  taken_free e = rw e (and-false (not (condition m C)))
 
   pub taken-there : {j : ℕ} → condition m C ≡ false → sleeper m R ≡ some j → taken m R C ≡ true
   unfolding taken
@@ -94,7 +94,7 @@ module _ (m : Machine) (k : Bool) (R C : ℕ) where
       else if is_none m.up && not (condition m C) then some 4
       else none)
   unfolding open_table open_step
-  refusal-sleep = refusal-tests m (step k (sleep R C)) ∙ rw (and_true k, or_false (taken m R C || false), or_false (taken m R C))
+  refusal-sleep = refusal-tests m (step k (sleep R C)) ∙ rw (and-true k, or-false (taken m R C || false), or-false (taken m R C))
 
   pub refused-sleep_3 : in_range m.sizes (sleep R C) ≡ true → k ≡ true → refusal m (step k (sleep R C)) ≡ some 3
   refused-sleep_3 range marked = refusal-sleep ∙ rw (range, marked)
@@ -118,4 +118,4 @@ module _ (m : Machine) (k : Bool) (R C : ℕ) where
   pub allowed-sleep-true
       : in_range m.sizes (sleep R C) ≡ true → k ≡ false → condition m C ≡ true
       → refusal m (step k (sleep R C)) ≡ none
-  allowed-sleep-true range marked holds = refusal-sleep ∙ rw (range, marked, taken_true m R C holds, holds, and_false (is_none m.up))
+  allowed-sleep-true range marked holds = refusal-sleep ∙ rw (range, marked, taken_true m R C holds, holds, and-false (is_none m.up))

@@ -1,7 +1,7 @@
 -- The number that clock, intr, due, tadd and tdel meet.
 use Rattle.std.specs.Prelude.{if◌then◌else◌, ◌≡◌, Bool, true, false, not, ◌||◌, ℕ, eqb}
 use Rattle.std.proofs.Common.{◌∙◌}
-use Rattle.std.proofs.Math.Bool.{and_false, or_false}
+use Rattle.std.proofs.Math.Bool.{and-false, or-false}
 use Rattle.std.proofs.Math.Option.{none, some}
 use Rattle.clock.specs.Counts.{zero_duration, shorter}
 use Rattle.machine.specs.Basics.{is_none}
@@ -14,11 +14,11 @@ use Rattle.outcome.specs.Refusals.{step, refusal-tests}
 module _ (m : Machine) (k : Bool) where
   pub refusal-due : refusal m (step k due) ≡ none
   unfolding open_table open_step
-  refusal-due = refusal-tests m (step k due) ∙ rw (and_false k, and_false (is_none m.up))
+  refusal-due = refusal-tests m (step k due) ∙ rw (and-false k, and-false (is_none m.up))
 
   pub refusal-tdel : (T : ℕ) → refusal m (step k (tdel T)) ≡ (if not (in_range m.sizes (tdel T)) then some 2 else none)
   unfolding open_table open_step
-  refusal-tdel T = refusal-tests m (step k (tdel T)) ∙ rw (and_false k, and_false (is_none m.up))
+  refusal-tdel T = refusal-tests m (step k (tdel T)) ∙ rw (and-false k, and-false (is_none m.up))
 
   pub allowed-tdel : (T : ℕ) → in_range m.sizes (tdel T) ≡ true → refusal m (step k (tdel T)) ≡ none
   allowed-tdel T range = refusal-tdel T ∙ rw range
@@ -30,7 +30,7 @@ module _ (m : Machine) (k : Bool) (NOW : ℕ) where
   unfolding open_table open_step
   refusal-clock =
       refusal-tests m (step k (clock NOW))
-      ∙ rw (and_false k, and_false (is_none m.up), or_false (bad_now m NOW || false), or_false (bad_now m NOW))
+      ∙ rw (and-false k, and-false (is_none m.up), or-false (bad_now m NOW || false), or-false (bad_now m NOW))
 
   pub refused-clock_8 : in_range m.sizes (clock NOW) ≡ true → bad_now m NOW ≡ true → refusal m (step k (clock NOW)) ≡ some 8
   refused-clock_8 range now = refusal-clock ∙ rw (range, now)
@@ -41,7 +41,7 @@ module _ (m : Machine) (k : Bool) (NOW : ℕ) where
   pub refusal-intr
       : refusal m (step k (intr NOW)) ≡ (if not (in_range m.sizes (intr NOW)) then some 2 else if bad_now m NOW then some 8 else none)
   unfolding open_table open_step
-  refusal-intr = refusal-tests m (step k (intr NOW)) ∙ rw (and_false k, and_false (is_none m.up))
+  refusal-intr = refusal-tests m (step k (intr NOW)) ∙ rw (and-false k, and-false (is_none m.up))
 
   pub refused-intr_8 : in_range m.sizes (intr NOW) ≡ true → bad_now m NOW ≡ true → refusal m (step k (intr NOW)) ≡ some 8
   refused-intr_8 range now = refusal-intr ∙ rw (range, now)
@@ -64,7 +64,7 @@ module _ (m : Machine) (k : Bool) (T KIND S N R NOW : ℕ) where
       else none)
   unfolding open_table open_step
   refusal-tadd =
-      refusal-tests m (step k (tadd T KIND S N R NOW)) ∙ rw (and_false k, and_false (is_none m.up), or_false (bad_now m NOW))
+      refusal-tests m (step k (tadd T KIND S N R NOW)) ∙ rw (and-false k, and-false (is_none m.up), or-false (bad_now m NOW))
 
   pub refused-tadd-7
       : in_range m.sizes (tadd T KIND S N R NOW) ≡ true → too_short KIND S N ≡ true → refusal m (step k (tadd T KIND S N R NOW)) ≡ some 7

@@ -1,7 +1,7 @@
 -- The number that tsleep meets.
 use Rattle.std.specs.Prelude.{if◌then◌else◌, ◌≡◌, Bool, true, not, ◌||◌, ℕ}
 use Rattle.std.proofs.Common.{◌∙◌}
-use Rattle.std.proofs.Math.Bool.{false, and_true, or_false}
+use Rattle.std.proofs.Math.Bool.{false, and-true, or-false}
 use Rattle.std.proofs.Math.Option.{none, some}
 use Rattle.clock.specs.Counts.{zero_duration}
 use Rattle.machine.specs.Basics.{is_none}
@@ -25,8 +25,8 @@ module _ (m : Machine) (k : Bool) (R C S N NOW : ℕ) where
   unfolding open_table open_step
   refusal-tsleep =
       refusal-tests m (step k (tsleep R C S N NOW))
-      ∙ rw (and_true k, and_true (is_none m.up), or_false (zero_duration S N), or_false (long_counts m S N), or_false (taken m R C))
-      (rw (or_false (bad_now m NOW || false || false), or_false (bad_now m NOW || false), or_false (bad_now m NOW)))
+      ∙ rw (and-true k, and-true (is_none m.up), or-false (zero_duration S N), or-false (long_counts m S N), or-false (taken m R C))
+      (rw (or-false (bad_now m NOW || false || false), or-false (bad_now m NOW || false), or-false (bad_now m NOW)))
 
   pub refused-tsleep-3
       : in_range m.sizes (tsleep R C S N NOW) ≡ true → k ≡ true

@@ -1,7 +1,7 @@
 -- The mark of a line, and the step of the whole line.
 use Rattle.std.specs.Prelude.{◌≡◌, refl, Bool, true, false, List, [], ◌∷◌, ℕ, ◌-◌, ◌≤◌, ◌<◌, eqb, length, get_or}
 use Rattle.std.proofs.Common.{sym, arith, eq-eqb, ne_eqb, lt-ltb, le-ltb}
-use Rattle.std.proofs.Math.Bool.{and_false, and_true}
+use Rattle.std.proofs.Math.Bool.{and-false, and-true}
 use Rattle.std.proofs.Math.Option.{Option, none, some}
 use Rattle.std.proofs.Math.ListN.{take, drop, length-drop}
 use Rattle.std.proofs.Math.Seq.{take_all}
@@ -20,7 +20,7 @@ pub record Marked (line : List ℕ) (r : Bool) : Type 0 where
 pub marked-short : (line : List ℕ) → length line < 2 → Marked line false
 unfolding same ascii
 marked-short [] h = record { mark = refl; long = λ e. let z : ◌≡◌ {A = ℕ} 0 1 = cc in absurd (omega arith) }
-marked-short (x ∷ []) h = record { mark = sym (and_false (eqb x 105)); long = λ e. let z : ◌≡◌ {A = ℕ} 0 1 = cc in absurd (omega arith) }
+marked-short (x ∷ []) h = record { mark = sym (and-false (eqb x 105)); long = λ e. let z : ◌≡◌ {A = ℕ} 0 1 = cc in absurd (omega arith) }
 marked-short (x ∷ y ∷ line) h = absurd (omega arith)
 
 pub marked_other : (line : List ℕ) → 2 ≤ length line → (get_or line 0 0 ≡ 105 → ⊥) → Marked line false
@@ -33,7 +33,7 @@ pub marked-second : (line : List ℕ) → 2 ≤ length line → get_or line 0 0 
 unfolding same ascii
 marked-second [] h n = absurd (omega arith)
 marked-second (x ∷ []) h n = absurd (omega arith)
-marked-second (x ∷ y ∷ line) h n = record { mark = rw (eq-eqb x 105 n) (sym (and_true (eqb y 32))); long = λ e. h }
+marked-second (x ∷ y ∷ line) h n = record { mark = rw (eq-eqb x 105 n) (sym (and-true (eqb y 32))); long = λ e. h }
 
 pub marked-long : {line : List ℕ} {r : Bool} → Marked line r → r ≡ true → 2 ≤ length line
 marked-long m e = m.long e

@@ -1,7 +1,7 @@
 -- The first word of a line as a number, its key.
 use Rattle.std.specs.Prelude.{if◌then◌else◌, ◌≡◌, refl, Bool, true, false, ◌&&◌, List, [], ◌∷◌, ℕ, zero, suc, ◌+◌, ◌*◌, ◌≤◌, ◌<◌, T, eqb, ltb}
 use Rattle.std.proofs.Common.{sym, ap, arith, eq-eqb, ne_eqb, eqb-true, ltb→lt}
-use Rattle.std.proofs.Math.Bool.{and_false}
+use Rattle.std.proofs.Math.Bool.{and-false}
 use Rattle.std.proofs.Math.Option.{Option, none, some}
 use Rattle.std.proofs.lemmas.Bool.{eqb-false}
 use Rattle.machine.specs.Basics.{same}
@@ -64,7 +64,7 @@ before-is b c o k h = go (letter_of b) refl o
   where
     go : (d : ℕ) → letter_of b ≡ d → (p : Option ℕ) → (eqb b c && is p k) ≡ is (letter_before d p) (letter_of c + 32 * k)
     go zero e p = rw (ne_eqb b c (λ q. omega (arith, ap letter_of q)))
-    go (suc d) e none = and_false (eqb b c)
+    go (suc d) e none = and-false (eqb b c)
     go (suc d) e (some j) =
         let x : (b ≡ letter_of b + 96) × (letter_of b ≤ 26) = letter-is b (omega arith) in
         let y : (c ≡ letter_of c + 96) × (letter_of c ≤ 26) = letter-is c h in

@@ -1,7 +1,7 @@
 -- tadd: what it asks and ensures, and what the code shows.
 use Rattle.std.specs.Prelude.{◌≡◌, refl, Bool, true, false, ◌&&◌, List, [], ℕ, ◌+◌, ◌≤◌, ◌<◌, eqb}
 use Rattle.std.proofs.Common.{ap, subst, ◌∙◌, Fits, lt-ltb, le-leb}
-use Rattle.std.proofs.Math.Bool.{and_false}
+use Rattle.std.proofs.Math.Bool.{and-false}
 use Rattle.std.proofs.Math.Option.{some}
 use Rattle.std.specs.Int.{w64}
 use Rattle.clock.specs.declared.Duration.{Duration}
@@ -79,7 +79,7 @@ pub tadd-refused
 unfolding left_by left_bytes open_table open_step
 tadd-refused {z} {s} {t} {kind} {d} {r} {n} {number} a x e =
     let c : CountedAs z s kind d n (Meets number) = subst (CountedAs z s kind d n) e x in
-    let o : eqb number 11 && false ≡ false = and_false (eqb number 11) in
+    let o : eqb number 11 && false ≡ false = and-false (eqb number 11) in
     record { stepped = λ k. stepped-refused (tadd-number a c k ∙ c.number) a.well.holds (rw o) (rw o) }
 
 pub tadd-set

@@ -1,7 +1,7 @@
 -- tsleep of a process that runs: a number is met, or it goes by the condition and the Rendez.
 use Rattle.std.specs.Prelude.{if◌then◌else◌, ◌≡◌, refl, Bool, true, false, ◌&&◌, List, ℕ, ◌+◌, eqb}
 use Rattle.std.proofs.Common.{sym, ap, subst, ◌∙◌, Fits}
-use Rattle.std.proofs.Math.Bool.{and_false}
+use Rattle.std.proofs.Math.Bool.{and-false}
 use Rattle.std.proofs.Math.Option.{Option, none, some}
 use Rattle.std.specs.Int.{w8}
 use Rattle.clock.specs.Counts.{counts_of, zero_duration}
@@ -76,7 +76,7 @@ pub tsleep-refused
 unfolding left_by left_bytes open_table open_step
 tsleep-refused {z} {s} {i} {r} {c} {d} {n} {number} a f y e =
     let x : CountedAs z s 0 d n (Meets number) = subst (CountedAs z s 0 d n) e y in
-    let o : eqb number 11 && false ≡ false = and_false (eqb number 11) in
+    let o : eqb number 11 && false ≡ false = and-false (eqb number 11) in
     record {
       stepped =
           stepped-refused (tsleep-number a x f ∙ ap (λ (v : Option ℕ). first v (if taken (machine_in z s) r c then some 5 else none)) x.number)

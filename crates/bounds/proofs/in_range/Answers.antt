@@ -29,4 +29,4 @@ pub returns-then-not-cells_within : goal.returns-then-not-cells_within
 returns-then-not-cells_within c = group_no c.cells_within.ensures (not_from_false _ c.if-not-cells_within.true) (λ g. g.cells)
 
 pub returns : goal.returns
-returns c = state_of_lem (search rules) (λ k. omega (arith, c.shared_slice_known-1.given k)) (record { heads = group_in c.heads_within.ensures (not_from_true _ c.if-not-heads_within.false); ends = group_in c.ends_within.ensures (not_from_true _ c.if-not-ends_within.false); links = group_in c.links_within.ensures (not_from_true _ c.if-not-links_within.false); states = group_in c.states_within.ensures (not_from_true _ c.if-not-states_within.false); locks = group_in c.locks_within.ensures (not_from_true _ c.if-not-locks_within.false); timers = group_in c.timers_within.ensures (not_from_true _ c.if-not-timers_within.false); cells = group_in c.cells_within.ensures (not_from_true _ c.if-not-cells_within.false) })
+returns c = state_of_lem {z = c.args.z} (search rules) (λ k. omega (arith, c.shared_slice_known-1.given k)) (record { heads = group_in c.heads_within.ensures (not_from_true _ c.if-not-heads_within.false); ends = group_in c.ends_within.ensures (not_from_true _ c.if-not-ends_within.false); links = group_in c.links_within.ensures (not_from_true _ c.if-not-links_within.false); states = group_in c.states_within.ensures (not_from_true _ c.if-not-states_within.false); locks = group_in c.locks_within.ensures (not_from_true _ c.if-not-locks_within.false); timers = group_in c.timers_within.ensures (not_from_true _ c.if-not-timers_within.false); cells = group_in c.cells_within.ensures (not_from_true _ c.if-not-cells_within.false) })

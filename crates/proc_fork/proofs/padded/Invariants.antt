@@ -1,0 +1,12 @@
+-- `proc_fork::padded` meets its contract: byte by byte.
+use Prim.Native.Nat.{◌-◌}
+use native.Mathlib.Omega.{arith}
+use lib.ListN.{length}
+use Rattle.proc_fork.specs.Pad.{Padding, padding-start, padding-more, padding-end}
+use Rattle.proc_fork.proofs.padded.Given as goal
+
+abbrev pub invariant-loop-j : goal.invariant-loop-j
+invariant-loop-j l = Padding l.bytes l.text l.j
+
+abbrev pub decreases-loop-j : goal.decreases-loop-j
+decreases-loop-j l = length l.bytes - l.j

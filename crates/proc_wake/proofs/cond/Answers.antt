@@ -1,0 +1,6 @@
+-- `proc_wake::cond` meets its contract: each need by its law.
+use Rattle.proc_wake.specs.Steps.{cond-done}
+use Rattle.proc_wake.proofs.cond.Goals as goal
+
+pub returns : goal.returns
+returns c = search cond-done

@@ -1,0 +1,11 @@
+-- `waitq::write_exit_message` meets its contract: by its law of specs/WriteCode.antt.
+use mathlib.Core.Path.{refl}
+use native.Mathlib.Omega.{arith}
+use Rattle.waitq.specs.WriteCode.{part_end, message_in_lem}
+use Rattle.waitq.proofs.write_exit_message.Goals as goal
+
+pub slice_bounds-write_message-end : goal.slice_bounds-write_message-end
+slice_bounds-write_message-end c = search part_end
+
+pub returns : goal.returns
+returns c = message_in_lem c.requires c.message_at-start.ensures.0 c.write_message.ensures refl (λ k. omega (arith, c.slice_known-2-1.given k))
