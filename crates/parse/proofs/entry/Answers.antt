@@ -79,4 +79,4 @@ unfolding open_table
 returns-in-21 c = rw c.in-21.is
 
 pub returns-in_default : goal.returns-in_default
-returns-in_default c = no-entry c.in_default.rest
+returns-in_default c = no-entry c.in_default.in_default-own.rest

@@ -10,7 +10,7 @@ pub tell_parent-requires : goal.tell_parent-requires
 tell_parent-requires c = search depart-tell
 
 pub shape_of-s-then-link-ne0 : goal.shape_of-s-then-link-ne0
-shape_of-s-then-link-ne0 c = omega (arith, c.tell_parent.auto.0, c.leave.auto.0)
+shape_of-s-then-link-ne0 c = omega (arith, c.tell_parent.auto.s, c.leave.auto.s)
 
 pub returns-then-link-ne0 : goal.returns-then-link-ne0
 returns-then-link-ne0 c = search departed-told
