@@ -1,18 +1,18 @@
 #!/usr/bin/env bash
 # test.sh: everything that must hold, ending at the first fault. Its last command is `rt ci`, whose last line is 'N passed, 0 failed'.
-#   1. the files are in the formatter's layout;
-#   2. on each fixed list in lists/ the definition computes the kept listing, and every answer and number arises in one of them;
-#   3. demand 3, as it is stated, does not hold of wrong machines;
-#   4. the operations on the lent state do in small scenarios what 01 says, interpreted and compiled;
-#   5. the code gives on each fixed list the kept listing (`replay`), and the program `steps` takes long lines, any bytes and any cut of its input;
-#   6. where the Rust is at hand (the folder R9_SRC, from the repository's top, by default ../shared/docs/src/port/src): the kept
+#   1. on each fixed list in lists/ the definition computes the kept listing, and every answer and number arises in one of them;
+#   2. demand 3, as it is stated, does not hold of wrong machines;
+#   3. the operations on the lent state do in small scenarios what 01 says, interpreted and compiled;
+#   4. the code gives on each fixed list the kept listing (`replay`), and the program `steps` takes long lines, any bytes and any cut of its input;
+#   5. where the Rust is at hand (the folder R9_SRC, from the repository's top, by default ../shared/docs/src/port/src): the kept
 #      listings are what the Rust gives today, they hold every step with each number that it can meet, the definition and the
 #      Rust give the same on lists that are not kept, made here, `exit_message`, as C callers have it, and the Rust the same messages, and
 #      `step` and `run`, as C callers have them, and the Rust the same after every step of generated lists; damaged states are refused;
-#   7. where cargo is installed: `size`, `make` and `check`, as C callers have them, on many states against an independent reading, and,
+#   6. where cargo is installed: `size`, `make` and `check`, as C callers have them, on many states against an independent reading, and,
 #      where gcc is too, the C and the Rust caller of docs/CALLERS.md;
-#   8. every crate is proved from nothing, every must-fail edit is refused, and every program writes what it must (`rt ci`).
-# What needs nothing but the definition and the Rust runs beside 5 and the building of what C callers have.
+#   7. every crate is proved from nothing and its files are laid out, every must-fail edit is refused and none is bad, and every program writes what
+#      it must (`rt ci`).
+# What needs nothing but the definition and the Rust runs beside 4 and the building of what C callers have.
 set -euo pipefail
 cd "$(dirname "$0")"
 fail() { echo "test.sh: $*" >&2; exit 1; }
@@ -59,7 +59,7 @@ at_once() {
   done
 }
 
-# The definition, the scenarios and the listings: in copies of the crates, since `rt` locks nothing and one at a time runs in target/.
+# The definition, the scenarios and the listings: in copies of the crates.
 definition() {
   local pairs=() steps name size
   for steps in lists/*.steps; do
@@ -81,13 +81,9 @@ definition() {
 
 # The program `steps`, and what C callers have, which all programs below link.
 programs() {
-  local crate
   lists/replay.sh
   lists/pieces.sh
-  [ -n "$has_cargo" ] || return 0
-  for crate in step run make verify message; do
-    rt staticlib $crate >target/staticlib.out 2>&1 || { tail -n 20 target/staticlib.out; fail "no static library of $crate"; }
-  done
+  [ -z "$has_cargo" ] || ./archives.sh
 }
 
 build() { (cd "$1" && cargo build --quiet --release --offline) || fail "$1 does not build"; }
@@ -111,7 +107,6 @@ for_callers() {
   fi
 }
 
-rt fmt --check
 [ -z "$has_rust" ] || build oracle
 at_once definition programs
 if [ -n "$has_rust" ]; then
@@ -126,4 +121,5 @@ else
   echo "test.sh: cargo is not installed: the outside test of size, make and check and the callers are left out"
 fi
 
-rt ci
+rt ci 2>&1 | tee target/ci.log
+if grep -Eq '^rt: ok.*, [1-9][0-9]* bad' target/ci.log; then fail "a must-fail edit is bad"; fi

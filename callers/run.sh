@@ -1,6 +1,6 @@
 #!/usr/bin/env bash
-# callers/run.sh: takes the C and the Rust program out of docs/CALLERS.md, builds them with the archives in target/staticlib (`rt staticlib`
-# of step, run, make and verify), runs them, and compares what they print with the page.
+# callers/run.sh: takes the C and the Rust program out of docs/CALLERS.md, builds them with the archives in target/staticlib (`archives.sh`),
+# runs them, and compares what they print with the page.
 set -euo pipefail
 cd "$(dirname "$0")/.."
 out=target/callers

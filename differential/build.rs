@@ -1,6 +1,6 @@
 //! Links the static libraries of the crates `step` and `run`; those with
 //! `size`, `make` and `check` come with `outside`.  Their folder is
-//! HUIABUNK_LIB, or where that is unset or empty the one that `rt staticlib`
+//! HUIABUNK_LIB, or where that is unset or empty the one that `archives.sh`
 //! writes to.
 
 use std::env;
@@ -24,7 +24,7 @@ fn main() {
 fn link(folder: &Path, library: &str) -> Result<(), String> {
     let archive = folder.join(format!("lib{library}.a")).canonicalize().map_err(|e| {
         format!(
-            "no lib{library}.a in {} (rt staticlib {library}, or HUIABUNK_LIB): {e}",
+            "no lib{library}.a in {} (archives.sh {library}, or HUIABUNK_LIB): {e}",
             folder.display()
         )
     })?;

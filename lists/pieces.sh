@@ -7,8 +7,8 @@ cd "$(dirname "$0")/.."
 fail() { echo "lists/pieces.sh: $1" >&2; exit 1; }
 
 mkdir -p target/pieces
-rt check steps >target/steps.log 2>&1 || { tail -n 20 target/steps.log >&2; fail "steps is not proved"; }
-steps=target/bin/steps
+./programs.sh steps >&2 || fail "steps is not proved"
+steps=crates/steps/out/steps
 work=target/pieces
 oracle=oracle/target/release/oracle
 
@@ -33,7 +33,9 @@ says "$work/open" '1;pid 1;0;1;0;0' '2;refused 2;0;1;0;0' '3;pid 2;0;1,2;0;0'
 
 # what cannot be written is said
 if [ -c /dev/full ]; then
-  $steps <lists/001-listing-example.steps >/dev/full 2>"$work/said"
+  status=0
+  $steps <lists/001-listing-example.steps >/dev/full 2>"$work/said" || status=$?
+  [ "$status" -eq 1 ] || fail "steps ends with $status where a write failed"
   [ -s "$work/said" ] || fail "steps says nothing of a write that failed"
 fi
 

@@ -6,14 +6,14 @@ cd "$(dirname "$0")/.."
 fail() { echo "lists/replay.sh: $1" >&2; exit 1; }
 
 mkdir -p target
-rt check replay >target/replay.log 2>&1 || { tail -n 20 target/replay.log >&2; fail "replay is not proved"; }
+./programs.sh replay >&2 || fail "replay is not proved"
 words=()
 for steps in lists/*.steps; do
   name=$(basename "$steps" .steps)
   size=$(awk -v name="$name" '$1 == name { print $2 }' lists/sizes.txt)
   words+=("${size:-16,16,16,16,256,1000000}" "$steps" "lists/$name.listing")
 done
-said=$(target/bin/replay "${words[@]}")
+said=$(crates/replay/out/replay "${words[@]}")
 echo "$said"
 [ "$said" = "replay: listings that agree: $((${#words[@]} / 3))" ] || fail "not every listing agrees"
 
@@ -21,7 +21,7 @@ echo "$said"
 says() {
   local must="${2:+replay: $2
 }replay: listings that agree: $1"
-  said=$(target/bin/replay "${@:3}" 2>/dev/null)
+  said=$(crates/replay/out/replay "${@:3}" 2>/dev/null)
   [ "$said" = "$must" ] || fail "replay ${*:3} must say '$must' and says '$said'"
 }
 list=(16,16,16,16,256,1000000 lists/001-listing-example.steps)

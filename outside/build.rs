@@ -1,5 +1,5 @@
 //! Links the static libraries.  Their folder is HUIABUNK_LIB, or where that is
-//! unset or empty the one that `rt staticlib` writes to.  Which archive of the
+//! unset or empty the one that `archives.sh` writes to.  Which archive of the
 //! folder holds which function is read from the archives' own indexes: a crate
 //! may have any name.  `make` and `size` must be there; where `check` is there,
 //! `has_check` is set.
@@ -40,7 +40,7 @@ fn link() -> Result<(), String> {
         }
     }
     let name = holder(&archives, "make")?.ok_or_else(|| {
-        format!("no archive with make in {} (rt staticlib, or HUIABUNK_LIB)", folder.display())
+        format!("no archive with make in {} (archives.sh, or HUIABUNK_LIB)", folder.display())
     })?;
     println!("cargo::rustc-link-lib=static={name}");
     Ok(())

@@ -122,8 +122,7 @@ fn sizes_of(p: u64, r: u64, q: u64, k: u64, c: u64, hz: u64) -> Sizes
 }
 
 // How many bytes a state of these sizes takes, or 2 where one is out of range.
-#[unsafe(no_mangle)]
-pub extern "C" fn size(p: u64, r: u64, q: u64, k: u64, c: u64) -> u64
+pub fn size(p: u64, r: u64, q: u64, k: u64, c: u64) -> u64
     ensures { Sized p r q k c result }
 {
     if !counts_fit(p, r, q, k, c) {
@@ -135,8 +134,7 @@ pub extern "C" fn size(p: u64, r: u64, q: u64, k: u64, c: u64) -> u64
 
 // Makes a fresh state in the front of `s`: 0 where it is made, 2 where a size is out of range, and then 1
 // where `s` is too short; nothing is written in either case.
-#[unsafe(no_mangle)]
-pub extern "C" fn make(s: &mut [u8], p: u64, r: u64, q: u64, k: u64, c: u64, hz: u64) -> u64
+pub fn make(s: &mut [u8], p: u64, r: u64, q: u64, k: u64, c: u64, hz: u64) -> u64
     ensures { MakeAnswers p r q k c hz s.old s.new result }
 {
     if !counts_fit(p, r, q, k, c) {

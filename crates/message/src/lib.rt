@@ -144,8 +144,7 @@ const REFUSED: u64 = 258;
 
 // For C callers: writes the message of an exit at the front of `cell`, and leaves the bytes behind it. The answer is the
 // message's length, 0 to 127, or 258, nothing written, where `cell` is under 127 bytes or `name` over 28.
-#[unsafe(no_mangle)]
-pub extern "C" fn exit_message(cell: &mut [u8], name: &[u8], pid: u64, status: &[u8]) -> u64
+pub fn exit_message(cell: &mut [u8], name: &[u8], pid: u64, status: &[u8]) -> u64
     ensures { MessageAnswers cell.old cell.new name.now pid status.now result }
 {
     if cell.len() < 127 {

@@ -3,12 +3,15 @@
 // agree, at sizes of no state, at a file that cannot be read whole or at a rest of arguments, names it, and says how many agreed.
 #![tactic(auto)]
 
-ghost use Rattle.std.specs.Prelude.{◌≡◌, suc, ◌≤◌, ◌<◌, length};
+ghost use Rattle.std.specs.Prelude.{IfOk, ◌≡◌, suc, ◌≤◌, ◌<◌, length};
 ghost use Rattle.replay.specs.Replay.{ListAsks, Within};
 
-use libc::STDOUT_FILENO;
 use listing::Fed;
 use state::Sizes;
+use std::env::{Env, FillError};
+use std::fs::File;
+use std::io;
+use std::io::{Read, Write};
 
 // A number read from a text, and where what is behind it and one byte more begins.
 #[derive(Clone, Copy)]
@@ -175,26 +178,51 @@ struct Loaded {
     length: usize,
 }
 
-// Reads the file that argument `i` names; not whole where it cannot be opened or read, or is longer than the buffer.
-fn read_file(i: usize, buf: &mut [u8]) -> Loaded
+// Reads until the buffer is full, the input ends or a read fails: how many bytes it put at the start of the buffer.
+fn read_full<R: Read>(from: &mut R, buf: &mut [u8]) -> usize
+    ensures { Within buf.new result }
+{
+    let mut length = 0;
+    while length < buf.len() {
+        match from.read(&mut buf[length..]) {
+            Ok(n) if 0 < n => length += n,
+            _ => return length,
+        }
+    }
+    length
+}
+
+// Reads to the end; not whole where a read fails or more comes than the buffer holds.
+fn load<R: Read>(from: &mut R, buf: &mut [u8]) -> Loaded
     ensures { Within buf.new result.length }
 {
-    let mut path = io::buffer();
-    let n = os::arg(i, &mut path);
-    let fd = os::open_read(&path[..n]);
-    if fd < 0 {
-        os::fail(&path[..n]);
-        return Loaded {
-            is_whole: false,
-            length: 0,
-        };
-    }
-    let length = io::read_full(fd, buf);
-    let rest = libc::read(fd, &mut path);
-    libc::close(fd);
+    let length = read_full(from, buf);
+    let mut rest = [0u8; 1];
     Loaded {
-        is_whole: rest == 0,
+        is_whole: matches!(from.read(&mut rest), Ok(0)),
         length,
+    }
+}
+
+// Reads the file that argument `i` names; not whole where it cannot be opened or read, or is longer than the buffer.
+fn read_file(rt: HostRuntime, i: usize, buf: &mut [u8]) -> io::Result<Loaded>
+    ensures { IfOk result (λ l. Within buf.new l.length) }
+{
+    let mut word = word_buffer();
+    let n = argument(rt, i, &mut word);
+    let unread = Loaded {
+        is_whole: false,
+        length: 0,
+    };
+    let Ok(name) = str::from_utf8(&word[..n]) else {
+        return Ok(unread);
+    };
+    match File::open(&rt, name) {
+        Ok(mut file) => Ok(load(&mut file, buf)),
+        Err(e) => {
+            eprintln!(rt; "{name}: {e}")?;
+            Ok(unread)
+        }
     }
 }
 
@@ -205,87 +233,111 @@ fn compare(s: &mut [u8], input: &[u8], kept: &[u8]) -> u64 {
     difference(&out[..n], kept)
 }
 
+// Room for an argument.
+fn word_buffer() -> [u8; 4096]
+    ensures { 4096 ≡ length result }
+{
+    [0; 4096]
+}
+
+// Argument `i` at the start of the buffer: how many bytes it has, 0 where there is none or it does not fit.
+fn argument(rt: HostRuntime, i: usize, buf: &mut [u8]) -> usize
+    ensures { Within buf.new result }
+{
+    match rt.arg(i, buf) {
+        Ok(n) => n,
+        Err(_) => 0,
+    }
+}
+
+// How many arguments there are, the program's name among them.
+fn arg_count(rt: HostRuntime) -> usize {
+    let mut word = word_buffer();
+    for i in 0..usize::MAX {
+        if let Err(FillError::NotPresent) = rt.arg(i, &mut word) {
+            return i;
+        }
+    }
+    usize::MAX
+}
+
 // Names argument `i`, and what there is to say of it.
-fn say(i: usize, what: &[u8]) {
-    let mut word = io::buffer();
-    let n = os::arg(i, &mut word);
-    io::write_all(STDOUT_FILENO, b"replay: ");
-    io::write_all(STDOUT_FILENO, &word[..n]);
-    io::write_all(STDOUT_FILENO, what);
+fn say(rt: HostRuntime, i: usize, what: &[u8]) -> io::Result<()> {
+    let mut word = word_buffer();
+    let n = argument(rt, i, &mut word);
+    let mut out = rt.stdout();
+    out.write_all(b"replay: ")?;
+    out.write_all(&word[..n])?;
+    out.write_all(what)
 }
 
 // The same, and the line that differs.
-fn report(i: usize, line: u64) {
-    say(i, b": another listing, from line ");
-    io::print_decimal(STDOUT_FILENO, line);
-    io::write_all(STDOUT_FILENO, b"\n");
+fn report(rt: HostRuntime, i: usize, line: u64) -> io::Result<()> {
+    say(rt, i, b": another listing, from line ")?;
+    println!(rt; "{line}")
 }
 
-fn say_unread(i: usize) {
-    say(i, b": cannot be read whole\n");
+fn say_unread(rt: HostRuntime, i: usize) -> io::Result<()> {
+    say(rt, i, b": cannot be read whole\n")
 }
 
-fn say_rest(i: usize) {
-    say(i, b": arguments come in threes\n");
+fn say_rest(rt: HostRuntime, i: usize) -> io::Result<()> {
+    say(rt, i, b": arguments come in threes\n")
 }
 
-fn say_unmade(i: usize) {
-    say(i, b": no sizes of a state, or too large\n");
+fn say_unmade(rt: HostRuntime, i: usize) -> io::Result<()> {
+    say(rt, i, b": no sizes of a state, or too large\n")
 }
 
 // Does the list that the three arguments from `i` on name agree? Where not, says why.
-fn replay_list(i: usize) -> bool
+fn replay_list(rt: HostRuntime, i: usize) -> io::Result<bool>
     requires { suc (suc i) < 18446744073709551616 }
 {
     let mut state = big_buffer();
-    let mut sizes = io::buffer();
+    let mut sizes = word_buffer();
     let mut input = big_buffer();
     let mut kept = big_buffer();
-    let n = os::arg(i, &mut sizes);
-    let steps = read_file(i + 1, &mut input);
-    let lines = read_file(i + 2, &mut kept);
+    let n = argument(rt, i, &mut sizes);
+    let steps = read_file(rt, i + 1, &mut input)?;
+    let lines = read_file(rt, i + 2, &mut kept)?;
     if !open(&mut state, &sizes[..n]) {
-        say_unmade(i);
-        return false;
+        say_unmade(rt, i)?;
+        return Ok(false);
     }
     if !steps.is_whole {
-        say_unread(i + 1);
-        return false;
+        say_unread(rt, i + 1)?;
+        return Ok(false);
     }
     if !lines.is_whole {
-        say_unread(i + 2);
-        return false;
+        say_unread(rt, i + 2)?;
+        return Ok(false);
     }
     let line = compare(&mut state, &input[..steps.length], &kept[..lines.length]);
     if line != 0 {
-        report(i + 1, line);
+        report(rt, i + 1, line)?;
     }
-    line == 0
+    Ok(line == 0)
 }
 
 // Says how many agreed.
-fn tell(agreed: u64) {
-    io::write_all(STDOUT_FILENO, b"replay: listings that agree: ");
-    io::print_decimal(STDOUT_FILENO, agreed);
-    io::write_all(STDOUT_FILENO, b"\n");
+fn tell(rt: HostRuntime, agreed: u64) -> io::Result<()> {
+    println!(rt; "replay: listings that agree: {agreed}")
 }
 
-fn main() {
-    let count = os::arg_count();
+fn main(rt: HostRuntime) -> io::Result<()> {
+    let count = arg_count(rt);
     let mut i: usize = 1;
     let mut agreed: u64 = 0;
     while i < count {
         if count - i < 3 {
-            say_rest(i);
-            tell(agreed);
-            return;
+            say_rest(rt, i)?;
+            return tell(rt, agreed);
         }
-        if !replay_list(i) {
-            tell(agreed);
-            return;
+        if !replay_list(rt, i)? {
+            return tell(rt, agreed);
         }
         agreed += 1;
         i += 3;
     }
-    tell(agreed);
+    tell(rt, agreed)
 }

@@ -118,8 +118,7 @@ fn refuse_all(steps: &[u8], answers: &mut [u8]) -> u64
 // bytes. Answer i is the 160 bytes of `answers` from 160 * i on: number, first, second, length, of 8 bytes each, and 128 bytes that are the
 // message buffer of that step; of a refusal the number alone is written. The run ends before the first step that is not whole, or for which
 // no 160 bytes are left. Any bytes, any lengths. Answers how many steps it took.
-#[unsafe(no_mangle)]
-pub extern "C" fn run(s: &mut [u8], steps: &[u8], answers: &mut [u8]) -> u64
+pub fn run(s: &mut [u8], steps: &[u8], answers: &mut [u8]) -> u64
     ensures { Ran (steps_in steps.now) s.old s.new answers.old answers.new result }
 {
     let formed = verify::check(s);

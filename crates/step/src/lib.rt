@@ -87,8 +87,7 @@ fn reply_to(s: &mut [u8], b: &[u8], message: &mut [u8]) -> Reply
 
 // Takes one step: `s` a state, `b` the step's bytes, `message` for the exit message that a wait tells. Any bytes, any lengths.
 // Answers the number of the refusal, below 32, or of the answer; then `first`, `second` and `length` are its words.
-#[unsafe(no_mangle)]
-pub extern "C" fn step(
+pub fn step(
     s: &mut [u8],
     b: &[u8],
     message: &mut [u8],

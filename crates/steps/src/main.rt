@@ -1,14 +1,19 @@
 // Reads steps from standard input, a step a line, and writes the listing to standard output.
 #![tactic(auto)]
 
-ghost use Rattle.std.specs.Prelude.{◌≤◌, length};
+ghost use Rattle.std.specs.Prelude.{IfOk, OnErr};
+ghost use Rattle.outcome.specs.Stepped.{Well};
 ghost use Rattle.steps.specs.Chunk.{Asks, ChunkAsks, ChunkTaken};
 ghost use Rattle.steps.specs.Some.{LastTaken, SomeAsks, SomeTaken};
 ghost use Rattle.steps.specs.All.{AllAsks};
 
-use libc::{STDIN_FILENO, STDOUT_FILENO};
 use listing::Fed;
 use state::Sizes;
+use std::io;
+use std::io::{Read, Write};
+
+// How many bytes are read at once, and room for what is written at once.
+const CHUNK_SIZE: usize = 65_536;
 
 // What is left after a chunk: whether to go on, how many bytes of the line begun are held, and the number of the next step.
 #[derive(Clone, Copy)]
@@ -18,19 +23,9 @@ struct Left {
     n: u64,
 }
 
-// Writes the first `n` bytes of `out`, or says why it cannot. Were they written?
-fn write(out: &[u8], n: usize) -> bool
-    requires { n ≤ length out.now }
-{
-    let is_written = io::write_all(STDOUT_FILENO, &out[..n]);
-    if !is_written {
-        os::fail(b"standard output");
-    }
-    is_written
-}
-
-// Takes the lines of a chunk, and writes their lines of the listing.
-fn take_chunk(
+// Takes the lines of a chunk, and writes their lines of the listing to `to`. An error is the writer's.
+fn take_chunk<W: Write>(
+    to: &mut W,
     s: &mut [u8],
     z: Sizes,
     chunk: &[u8],
@@ -39,9 +34,10 @@ fn take_chunk(
     message: &mut [u8],
     out: &mut [u8],
     left: Left,
-) -> Left
+) -> io::Result<Left>
     requires { ChunkAsks z s.old chunk.now held.old b.old message.old out.old left }
-    ensures { ChunkTaken z chunk.now s.old held.old left s.new held.new result }
+    ensures taken { IfOk result (λ l. ChunkTaken z chunk.now s.old held.old left s.new held.new l) }
+    ensures failed { OnErr result (Well z s.new) }
 {
     let mut fed = Fed {
         from: 0,
@@ -51,24 +47,19 @@ fn take_chunk(
     };
     while fed.from < chunk.len() {
         fed = listing::feed(s, z, chunk, held, b, message, out, fed);
-        if !write(out, fed.used) {
-            return Left {
-                more: false,
-                have: fed.have,
-                n: fed.n,
-            };
-        }
+        to.write_all(&out[..fed.used])?;
         fed.used = 0;
     }
-    Left {
+    Ok(Left {
         more: true,
         have: fed.have,
         n: fed.n,
-    }
+    })
 }
 
-// Takes a last line without its line end, and writes its line of the listing.
-fn take_last(
+// Takes a last line without its line end, and writes its line of the listing to `to`. The line is taken also where the writer fails.
+fn take_last<W: Write>(
+    to: &mut W,
     s: &mut [u8],
     z: Sizes,
     held: &[u8],
@@ -76,7 +67,7 @@ fn take_last(
     message: &mut [u8],
     out: &mut [u8],
     left: Left,
-)
+) -> io::Result<()>
     requires { Asks z s.old held.now b.old message.old out.old left }
     ensures { LastTaken z s.old held.now left s.new }
 {
@@ -87,11 +78,13 @@ fn take_last(
         used: 0,
     };
     let used = listing::finish(s, z, held, b, message, out, fed);
-    write(out, used);
+    to.write_all(&out[..used])
 }
 
-// Reads a chunk and takes its lines; at the end of the input, the last line.
-fn take_some(
+// Reads a chunk from `from` and takes its lines; at the end of the input, the last line. An error is the reader's or the writer's.
+fn take_some<R: Read, W: Write>(
+    from: &mut R,
+    to: &mut W,
     s: &mut [u8],
     z: Sizes,
     input: &mut [u8],
@@ -100,36 +93,30 @@ fn take_some(
     message: &mut [u8],
     out: &mut [u8],
     left: Left,
-) -> Left
+) -> io::Result<Left>
     requires { SomeAsks z s.old input.old held.old b.old message.old out.old left }
-    ensures { SomeTaken z s.old held.old left s.new held.new result }
+    ensures taken { IfOk result (λ l. SomeTaken z s.old held.old left s.new held.new l) }
+    ensures failed { OnErr result (Well z s.new) }
 {
-    let got = libc::read(STDIN_FILENO, input);
-    if got < 0 {
-        os::fail(b"standard input");
-        return Left {
-            more: false,
-            have: left.have,
-            n: left.n,
-        };
-    }
-    let n = io::count(got, input);
+    let n = from.read(input)?;
     if 0 < n {
-        return take_chunk(s, z, &input[..n], held, b, message, out, left);
+        return take_chunk(to, s, z, &input[..n], held, b, message, out, left);
     }
-    take_last(s, z, held, b, message, out, left);
-    Left {
+    take_last(to, s, z, held, b, message, out, left)?;
+    Ok(Left {
         more: false,
         have: left.have,
         n: left.n,
-    }
+    })
 }
 
 // A loop has to end, and nothing says that the input does: it counts its turns, from a number that no run uses up.
 const TURNS: u64 = 140_737_488_355_328;
 
-// Chunk after chunk, to the end of the input.
-fn take_all(
+// Chunk after chunk, to the end of the input or the first error.
+fn take_all<R: Read, W: Write>(
+    from: &mut R,
+    to: &mut W,
     s: &mut [u8],
     z: Sizes,
     input: &mut [u8],
@@ -137,7 +124,7 @@ fn take_all(
     b: &mut [u8],
     message: &mut [u8],
     out: &mut [u8],
-)
+) -> io::Result<()>
     requires { AllAsks z s.old input.old held.old b.old message.old out.old }
 {
     let mut turns = TURNS;
@@ -147,29 +134,33 @@ fn take_all(
         n: 1,
     };
     while 0 < turns && left.more {
-        left = take_some(s, z, input, held, b, message, out, left);
+        left = take_some(from, to, s, z, input, held, b, message, out, left)?;
         turns -= 1;
     }
+    Ok(())
 }
 
-fn main() {
+fn main(rt: HostRuntime) -> io::Result<()> {
     let mut s = [0u8; listing::STATE_SIZE];
-    let mut input = io::large_buffer();
+    let mut input = [0u8; CHUNK_SIZE];
     let mut held = [0u8; listing::HELD_SIZE];
     let mut b = [0u8; listing::STEP_SIZE];
     let mut message = [0u8; listing::MESSAGE_SIZE];
-    let mut out = io::large_buffer();
+    let mut out = [0u8; CHUNK_SIZE];
+    let mut from = rt.stdin();
+    let mut to = rt.stdout();
     let z = listing::start(&mut s);
     let used = listing::begin(&mut out);
-    if write(&out, used) {
-        take_all(
-            &mut s,
-            z,
-            &mut input,
-            &mut held,
-            &mut b,
-            &mut message,
-            &mut out,
-        );
-    }
+    to.write_all(&out[..used])?;
+    take_all(
+        &mut from,
+        &mut to,
+        &mut s,
+        z,
+        &mut input,
+        &mut held,
+        &mut b,
+        &mut message,
+        &mut out,
+    )
 }

@@ -105,8 +105,7 @@ fn state_ok(s: &[u8], z: Sizes) -> bool
 }
 
 // Is `s` a well-formed state? Any bytes, any length; nothing is written.
-#[unsafe(no_mangle)]
-pub extern "C" fn check(s: &[u8]) -> bool
+pub fn check(s: &[u8]) -> bool
     ensures { Decides result (WellFormed s.now) }
 {
     if s.len() < 80 {
