@@ -1,0 +1,11 @@
+-- `listing::line_end` meets its contract: no line ends before `i`. The measure is what is left of the chunk.
+use Rattle.listing.specs.Pieces.{Seeking, seek_start, seek_more, seek_none, seek_found}
+use Prim.Native.Nat.{◌-◌}
+use lib.ListN.{length}
+use Rattle.listing.proofs.line_end.Given as goal
+
+abbrev pub invariant-loop-i : goal.invariant-loop-i
+invariant-loop-i l = Seeking l.chunk l.from l.i
+
+abbrev pub decreases-loop-i : goal.decreases-loop-i
+decreases-loop-i l = length l.chunk - l.i

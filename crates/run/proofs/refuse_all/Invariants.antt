@@ -1,0 +1,17 @@
+-- `run::refuse_all` meets its contract: each need by its law.
+use mathlib.Core.Path.{refl}
+use mathlib.Core.List.{List}
+use Prim.Native.Nat.{ℕ, ◌-◌}
+use native.Mathlib.Omega.{arith}
+use lib.ListN.{length}
+use Rattle.state.specs.WellFormed.{WellFormed}
+use Rattle.run.specs.Steps.{Whole, end_none, end-some}
+use Rattle.run.specs.One.{one-refused}
+use Rattle.run.specs.Loop.{Reached, SoFar, reached_start, so_far-start, ran-ended, ran-full, reached_more, so_far_more}
+use Rattle.run.proofs.refuse_all.Given as goal
+
+abbrev pub invariant-loop-answers : goal.invariant-loop-answers
+invariant-loop-answers l = Reached l.steps l.initial.answers l.answers l.at l.k l.n × ((s : List ℕ) → (WellFormed s → ⊥) → SoFar l.steps s s l.initial.answers l.answers l.at l.k l.n)
+
+abbrev pub decreases-loop-answers : goal.decreases-loop-answers
+decreases-loop-answers l = length l.answers - l.k

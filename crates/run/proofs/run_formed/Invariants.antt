@@ -1,0 +1,15 @@
+-- `run::run_formed` meets its contract: each need by its law.
+use mathlib.Core.Path.{◌≡◌, refl, ◌∙◌}
+use Prim.Native.Nat.{◌-◌}
+use native.Mathlib.Omega.{arith}
+use lib.ListN.{length}
+use Rattle.step.specs.After.{WellIn}
+use Rattle.run.specs.Steps.{Whole, end_none, end-some}
+use Rattle.run.specs.Loop.{Reached, SoFar, reached_start, so_far-start, ran-ended, ran-full, reached_more, so_far_more}
+use Rattle.run.proofs.run_formed.Given as goal
+
+abbrev pub invariant-loop-answers : goal.invariant-loop-answers
+invariant-loop-answers l = WellIn l.z l.s × (length l.s ≡ length l.initial.s) × Reached l.steps l.initial.answers l.answers l.at l.k l.n × SoFar l.steps l.initial.s l.s l.initial.answers l.answers l.at l.k l.n
+
+abbrev pub decreases-loop-answers : goal.decreases-loop-answers
+decreases-loop-answers l = length l.answers - l.k
