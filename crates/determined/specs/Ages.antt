@@ -1,8 +1,8 @@
 -- The living by age, and their parents, in two memories of one machine.
-use Rattle.std.specs.Prelude.{if◌then◌else◌, ◌≡◌, refl, Bool, true, false, ◌||◌, ℕ, ◌-◌, ◌<◌, eqb}
+use Rattle.std.specs.Prelude.{if◌then◌else◌, ◌≡◌, refl, Bool, true, false, ◌||◌, ℕ, ◌-◌, ◌<◌, eqb, List, [], ◌∷◌, reverse}
 use Rattle.std.proofs.Common.{sym, ap, subst, ◌∙◌, arith, eqb-true}
 use Rattle.std.proofs.Math.Path.{fun_ext}
-use mathlib.Core.List.{List, [], ◌∷◌, reverse, reverse-cons}
+use mathlib.Core.List.{reverse-cons}
 use Rattle.std.proofs.lemmas.Bool.{eqb-false}
 use Rattle.machine.specs.Basics.{count}
 use Rattle.machine.specs.Machine.{Sizes}

@@ -1,9 +1,8 @@
 -- From the facts: the links, tags, cells and ages that a well-formed state has.
-use Rattle.std.specs.Prelude.{◌≡◌, Bool, ℕ, zero, suc, ◌+◌, ◌≤◌, ◌<◌, eqb, length}
+use Rattle.std.specs.Prelude.{◌≡◌, Bool, ℕ, zero, suc, ◌+◌, ◌≤◌, ◌<◌, eqb, length, List}
 use Rattle.std.proofs.Math.Path.{refl, subst}
 use Rattle.std.proofs.Common.{sym, ap, ◌∙◌, arith, eq-eqb, ne_eqb, ltb-true, ltb-false}
 use Rattle.std.proofs.Math.Bool.{true, false}
-use mathlib.Core.List.{List}
 use Rattle.std.proofs.Math.Dec.{ltb}
 use Rattle.machine.specs.Basics.{count}
 use Rattle.machine.specs.Machine.{Sizes}

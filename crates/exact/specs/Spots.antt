@@ -1,12 +1,9 @@
 -- In which of the five places each record is: as its state and call say. From this follow the places of demand 3, and who is asleep.
-use Rattle.std.specs.Prelude.{◌≡◌, Bool, true, false, eqb}
+use Rattle.std.specs.Prelude.{◌≡◌, Bool, true, false, eqb, List, ◌++◌, ℕ, ◌+◌, ◌≤◌, ◌<◌}
 use Rattle.std.proofs.Math.Path.{refl, ap}
-use Rattle.std.proofs.Common.{sym, ◌∙◌}
-use mathlib.Core.List.{List, ◌++◌}
+use Rattle.std.proofs.Common.{sym, ◌∙◌, arith, eqb-true}
+use Rattle.std.proofs.lemmas.Bool.{eqb-false}
 use Rattle.std.proofs.Math.Option.{Option}
-use Prim.Native.Nat.{ℕ, ◌+◌, ◌≤◌, ◌<◌}
-use native.Mathlib.Omega.{arith}
-use borrow.Author.Tests.{eqb-true, eqb-false}
 use Rattle.machine.specs.Basics.{count, concat_map, present, numbers_from}
 use Rattle.machine.specs.Machine.{Sizes, Process, Lock, free, process, asleep_on, asleep}
 use Rattle.machine.specs.Good.{running_in, places, InOnePlace}

@@ -1,10 +1,8 @@
 -- What a well-formed state says puts each record in the place that its state and call name.
 use Rattle.std.specs.Prelude.{◌≡◌, ◌&&◌, ℕ, suc, ◌+◌, ◌≤◌, ◌<◌}
 use Rattle.std.proofs.Math.Path.{sym, ap}
-use Rattle.std.proofs.Common.{subst, ◌∙◌}
+use Rattle.std.proofs.Common.{subst, ◌∙◌, arith, eq-eqb}
 use Rattle.std.proofs.Math.Bool.{true}
-use native.Mathlib.Omega.{arith}
-use borrow.Author.Tests.{eq-eqb}
 use Rattle.std.proofs.Math.Dec.{eqb}
 use Rattle.machine.specs.Basics.{count}
 use Rattle.machine.specs.Machine.{Sizes, Lock, in_qlock, process, sleeper}

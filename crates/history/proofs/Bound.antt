@@ -1,11 +1,9 @@
 -- The tick bound over a list.
 use Rattle.std.specs.Prelude.{◌≡◌, Bool, List, [], ◌∷◌, ◌++◌, ℕ, ◌+◌, ◌*◌, ◌≤◌, length}
 use Rattle.std.proofs.Math.Path.{refl}
-use Rattle.std.proofs.Common.{sym, ap, ◌∙◌, subst, inl, inr, length-append}
+use Rattle.std.proofs.Common.{sym, ap, ◌∙◌, subst, inl, inr, length-append, arith, leb-false}
 use Rattle.std.proofs.Math.Bool.{true, false}
 use Rattle.std.proofs.Math.Option.{Option, none, some}
-use native.Mathlib.Omega.{arith}
-use borrow.Author.Tests.{leb-false}
 use Rattle.std.proofs.Math.Dec.{leb}
 use Rattle.machine.specs.Basics.{count}
 use Rattle.machine.specs.Machine.{Machine, process}

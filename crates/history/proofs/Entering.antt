@@ -1,10 +1,9 @@
 -- Whoever enters the run queue was made, was asleep, or yields.
-use Rattle.std.specs.Prelude.{◌≡◌, true, List, [], ◌∷◌}
+use Rattle.std.specs.Prelude.{◌≡◌, true, List, [], ◌∷◌, ℕ, ◌<◌}
 use Rattle.std.proofs.Math.Path.{refl, ap, subst}
 use Rattle.std.proofs.Common.{sym, ◌∙◌, arith}
 use Rattle.std.proofs.Math.Logic.{⊎_elim}
 use Rattle.std.proofs.Math.Option.{some}
-use Prim.Native.Nat.{ℕ, ◌<◌}
 use Rattle.machine.specs.Machine.{Machine, pid_of}
 use Rattle.history.proofs.Sound.{Sound}
 use Rattle.history.specs.History.{Input, Event, gives, Place, absent, running, Says, says_of, read_from, blank, place_after, runner_after}

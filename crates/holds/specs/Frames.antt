@@ -1,7 +1,6 @@
 -- Each group of what a memory keeps rests on a few fields: where they are as they were, it is kept.
-use Rattle.std.specs.Prelude.{◌≡◌}
+use Rattle.std.specs.Prelude.{◌≡◌, ℕ, suc}
 use Rattle.std.proofs.Common.{sym, ap, ◌∙◌}
-use Prim.Native.Nat.{ℕ, suc}
 use Rattle.machine.specs.Machine.{Sizes, asleep}
 use Rattle.machine.specs.Good.{Each}
 use Rattle.layout.specs.Memory.{Memory}

@@ -1,9 +1,8 @@
 -- A well-formed state keeps every group; and bytes that keep them, with nobody owed, represent their machine.
 use Rattle.std.specs.Prelude.{◌≡◌, Bool, List, ℕ, ◌≤◌}
 use Rattle.std.proofs.Math.Path.{refl, sym, ap}
-use Rattle.std.proofs.Common.{subst, ◌∙◌, zero-add, lit<}
+use Rattle.std.proofs.Common.{subst, ◌∙◌, zero-add, lit<, ltb-true, ltb-false}
 use Rattle.std.proofs.Math.Bool.{true, false}
-use borrow.Author.Tests.{ltb-true, ltb-false}
 use Rattle.std.proofs.Math.Dec.{ltb}
 use Rattle.machine.specs.Machine as machine
 use Rattle.machine.specs.Good.{SizesInRange, Good}

@@ -1,11 +1,10 @@
 -- `intr`: every timer that is due fires.
-use Rattle.std.specs.Prelude.{if◌then◌else◌, ◌≡◌, Bool, ◌⊎◌, ℕ, zero, suc, ◌+◌, ◌-◌, ◌^◌, ◌≤◌, ◌<◌, leb, length, get_or}
+use Rattle.std.specs.Prelude.{if◌then◌else◌, ◌≡◌, Bool, ◌⊎◌, ℕ, zero, suc, ◌+◌, ◌-◌, ◌^◌, ◌≤◌, ◌<◌, leb, length, get_or, List, [], ◌∷◌}
 use Rattle.std.proofs.Math.Path.{refl, ap}
-use Rattle.std.proofs.Common.{sym, ◌∙◌, subst, inl, inr, arith}
+use Rattle.std.proofs.Common.{sym, ◌∙◌, subst, inl, inr, arith, eqb-true, leb-true}
 use Rattle.std.proofs.Math.Bool.{true, false}
-use mathlib.Core.List.{List, [], ◌∷◌}
+use Rattle.std.proofs.lemmas.Bool.{eqb-false}
 use Rattle.std.proofs.Math.Option.{Option, none, some}
-use borrow.Author.Tests.{eqb-true, eqb-false, leb-true}
 use Rattle.std.proofs.Math.Dec.{eqb, ltb}
 use Rattle.clock.specs.Counts.{counts_of}
 use Rattle.machine.specs.Basics.{elem, count}

@@ -1,10 +1,8 @@
 -- A machine stays fine when one part of it is replaced and the groups that read the part are kept.
-use Rattle.std.specs.Prelude.{◌≡◌, refl, Bool, true, false, ◌⊎◌, ℕ, suc, ◌+◌, ◌-◌, ◌^◌, ◌≤◌, ◌<◌, set}
-use Rattle.std.proofs.Common.{sym, ◌∙◌, inl}
+use Rattle.std.specs.Prelude.{◌≡◌, refl, Bool, true, false, ◌⊎◌, ℕ, suc, ◌+◌, ◌-◌, ◌^◌, ◌≤◌, ◌<◌, set, List, map}
+use Rattle.std.proofs.Common.{sym, ◌∙◌, inl, arith}
 use Rattle.std.proofs.Math.Path.{ap, subst}
-use mathlib.Core.List.{List, map}
 use Rattle.std.proofs.Math.Option.{Option}
-use native.Mathlib.Omega.{arith}
 use Rattle.std.proofs.Math.ListN.{length, length-set}
 use Rattle.machine.specs.Basics.{count, concat_map}
 use Rattle.machine.specs.Machine.{Resume, in_wait, Process, Lock, Setting, Queued, Machine, living}

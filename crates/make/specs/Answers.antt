@@ -1,9 +1,8 @@
 -- What `size` and `make` ensure, and what the code shows at each way out.
 use Rattle.std.specs.Prelude.{◌≡◌, refl, Bool, true, false, not, ◌&&◌, List, ℕ, ◌≤◌, ◌<◌, leb, length}
 use Rattle.std.proofs.Math.Path.{sym, ap}
-use Rattle.std.proofs.Common.{◌∙◌, arith}
-use Rattle.std.proofs.lemmas.Bool.{false≢true}
-use borrow.Author.Tests.{not-true, not-false, le-ltb, lt-ltb, leb-true}
+use Rattle.std.proofs.Common.{◌∙◌, arith, le-ltb, lt-ltb, leb-true}
+use Rattle.std.proofs.lemmas.Bool.{false≢true, not-true, not-false}
 use Rattle.machine.specs.Machine as machine
 use Rattle.machine.specs.Good.{SizesInRange}
 use Rattle.state.specs.Places.{sizes_in, total_in}

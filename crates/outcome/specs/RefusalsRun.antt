@@ -1,9 +1,8 @@
 -- The number that yield, sched, sleep, wakeup and cond meet.
-use Rattle.std.specs.Prelude.{if◌then◌else◌, ◌≡◌, Bool, true, not, ◌&&◌, ◌||◌, ℕ}
+use Rattle.std.specs.Prelude.{if◌then◌else◌, ◌≡◌, Bool, true, not, ◌&&◌, ◌||◌, ℕ, List, [], ◌∷◌}
 use Rattle.std.proofs.Math.Path.{ap}
 use Rattle.std.proofs.Common.{◌∙◌}
 use Rattle.std.proofs.Math.Bool.{false, and-false, and-true, or-false}
-use mathlib.Core.List.{List, [], ◌∷◌}
 use Rattle.std.proofs.Math.Option.{none, some}
 use Rattle.machine.specs.Basics.{is_some, is_none}
 use Rattle.machine.specs.Machine.{Machine, process, sleeper, condition}

@@ -1,8 +1,7 @@
 -- The numbers behind a line's first word, one by one.
 use Rattle.std.specs.Prelude.{if◌then◌else◌, ◌≡◌, refl, Bool, true, false, List, [], ◌∷◌, ◌++◌, ℕ, suc, ◌+◌, ◌≤◌, ◌<◌, leb, length, take, drop, set}
-use Rattle.std.proofs.Common.{sym, ap, ◌∙◌, append_assoc, append-nil, add-one, arith, length-append, length-set, length-take-le, take-suc-set}
+use Rattle.std.proofs.Common.{sym, ap, ◌∙◌, append_assoc, append-nil, add-one, arith, length-append, length-set, length-take-le, take-suc-set, eq-eqb, ne_eqb, leb-true, leb-false}
 use Rattle.std.proofs.Math.Option.{Option, none, some}
-use borrow.Author.Tests.{eq-eqb, ne_eqb, leb-true, leb-false}
 use Rattle.machine.specs.Parse.{first_word, after_space, number, both, fields_in}
 use Rattle.parse.specs.Rest.{rest_at, rest_space, rest_end}
 use Rattle.parse.specs.Numeral.{Numeral}

@@ -1,9 +1,8 @@
 -- The kind that a line's first word names, byte by byte.
 use Rattle.std.specs.Prelude.{◌≡◌, refl, List, ◌∷◌, ℕ, zero, suc, ◌+◌, ◌-◌, ◌*◌, ◌/◌, ◌%◌, ◌^◌, ◌≤◌, ◌<◌, T, length, get_or, drop}
-use Rattle.std.proofs.Common.{sym, ◌∙◌, add-one, mul-le-mul_right, pow_mono, pow-add, drop_of_length-le, drop-cons}
+use Rattle.std.proofs.Common.{sym, ◌∙◌, add-one, mul-le-mul_right, pow_mono, pow-add, drop_of_length-le, drop-cons, arith}
 use Rattle.std.proofs.Math.Path.{ap}
 use Rattle.std.proofs.Math.Option.{Option, none, some}
-use native.Mathlib.Omega.{arith}
 use Rattle.machine.specs.Step.{kinds}
 use Rattle.machine.specs.Parse.{after_space, parse_body}
 use Rattle.parse.specs.Letters.{letter_of, letter-is}

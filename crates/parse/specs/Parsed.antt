@@ -1,9 +1,7 @@
 -- The step that the bytes written are.
-use Rattle.std.specs.Prelude.{◌≡◌, refl, Bool, true, false, T, length}
+use Rattle.std.specs.Prelude.{◌≡◌, refl, Bool, true, false, T, length, List, [], ◌∷◌, ℕ, zero, suc, ◌+◌, ◌-◌, ◌≤◌, ◌<◌}
 use Rattle.std.proofs.Common.{sym, ap, ◌∙◌, arith, ne_eqb, length-append, drop_of_length-le, take_at, drop_at}
-use mathlib.Core.List.{List, [], ◌∷◌}
 use Rattle.std.proofs.Math.Option.{Option, none, some}
-use Prim.Native.Nat.{ℕ, zero, suc, ◌+◌, ◌-◌, ◌≤◌, ◌<◌}
 use Rattle.std.proofs.Math.Numerals.{add-one}
 use Rattle.std.proofs.Math.ListN.{take, drop, length-drop}
 use Rattle.std.proofs.Math.Seq.{take_all, take-nil}

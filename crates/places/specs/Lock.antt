@@ -1,9 +1,7 @@
 -- A lock in the memory of a state: a process is queued for it, the first waiter is taken off, and it is held or freed.
-use Rattle.std.specs.Prelude.{◌≡◌, ◌⊎◌}
+use Rattle.std.specs.Prelude.{◌≡◌, ◌⊎◌, List, [], ◌∷◌, ◌++◌, ℕ, suc, ◌+◌, ◌<◌}
 use Rattle.std.proofs.Math.Path.{refl, ap}
 use Rattle.std.proofs.Common.{sym, subst, ◌∙◌, ⊎_elim, arith}
-use mathlib.Core.List.{List, [], ◌∷◌, ◌++◌}
-use Prim.Native.Nat.{ℕ, suc, ◌+◌, ◌<◌}
 use Rattle.std.proofs.Math.ListN.{length}
 use Rattle.machine.specs.Machine.{Sizes, Lock, lock, asleep}
 use Rattle.machine.specs.Good.{Each}

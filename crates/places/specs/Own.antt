@@ -1,9 +1,8 @@
 -- Who runs, who sleeps on the own waitr, where a call goes on, and how many are asleep, in the memory of a state.
-use Rattle.std.specs.Prelude.{◌≡◌, ◌⊎◌}
+use Rattle.std.specs.Prelude.{◌≡◌, ◌⊎◌, ℕ, suc, ◌+◌, ◌<◌}
 use Rattle.std.proofs.Math.Path.{refl, ap, subst}
 use Rattle.std.proofs.Common.{sym, ◌∙◌, arith}
 use Rattle.std.proofs.Math.Option.{none, some}
-use Prim.Native.Nat.{ℕ, suc, ◌+◌, ◌<◌}
 use Rattle.lists.specs.Lists.{bit}
 use Rattle.machine.specs.Machine.{Sizes, Machine, Process, free, process, asleep, asleep_on}
 use Rattle.machine.specs.Good.{Each}

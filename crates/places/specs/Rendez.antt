@@ -1,9 +1,8 @@
 -- A Rendez in the memory of a state: a process goes asleep there, and the sleeper is taken off.
-use Rattle.std.specs.Prelude.{◌≡◌, ◌⊎◌}
+use Rattle.std.specs.Prelude.{◌≡◌, ◌⊎◌, ℕ, suc, ◌+◌, ◌<◌}
 use Rattle.std.proofs.Math.Path.{refl, ap, subst}
 use Rattle.std.proofs.Common.{sym, ◌∙◌, ⊎_elim, arith}
 use Rattle.std.proofs.Math.Option.{Option, none, some}
-use Prim.Native.Nat.{ℕ, suc, ◌+◌, ◌<◌}
 use Rattle.std.proofs.Math.ListN.{length}
 use Rattle.machine.specs.Machine.{Sizes, sleeper, asleep}
 use Rattle.machine.specs.Good.{running_in}

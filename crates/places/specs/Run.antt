@@ -1,9 +1,7 @@
 -- The run queue in the memory of a state: a process is readied, and the first is taken off.
-use Rattle.std.specs.Prelude.{◌≡◌, refl}
+use Rattle.std.specs.Prelude.{◌≡◌, refl, List, [], ◌∷◌, ◌++◌, ℕ, suc, ◌+◌, ◌<◌}
 use Rattle.std.proofs.Common.{sym, ◌∙◌, arith}
 use Rattle.std.proofs.Math.Path.{ap, subst}
-use mathlib.Core.List.{List, [], ◌∷◌, ◌++◌}
-use Prim.Native.Nat.{ℕ, suc, ◌+◌, ◌<◌}
 use Rattle.machine.specs.Machine.{Sizes, Machine, asleep, asleep_on}
 use Rattle.machine.specs.Good.{Each}
 use Rattle.machine.specs.Update.{with_run}

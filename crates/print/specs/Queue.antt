@@ -1,7 +1,6 @@
 -- The run queue: a pid for each, a comma before each but the first.
-use Rattle.std.specs.Prelude.{◌≡◌, ℕ, suc, ◌-◌, ◌*◌, ◌≤◌, length}
+use Rattle.std.specs.Prelude.{◌≡◌, ℕ, suc, ◌-◌, ◌*◌, ◌≤◌, length, List, [], ◌∷◌}
 use Rattle.std.proofs.Common.{ap, ◌∙◌, arith}
-use mathlib.Core.List.{List, [], ◌∷◌}
 use Rattle.machine.specs.Basics.{ascii}
 use Rattle.machine.specs.Print.{print_queue}
 use Rattle.chain.specs.Lists.{distinct-fits}

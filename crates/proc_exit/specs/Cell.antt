@@ -1,8 +1,7 @@
 -- Whether a message is due at an exit and no cell is free for it, the cells of the process that goes being counted as free.
 use Rattle.std.specs.Prelude.{◌≡◌, refl, Bool, true, false, ◌&&◌, List, [], ◌∷◌, ℕ, suc, ◌-◌, ◌≤◌, ◌<◌, eqb, length}
-use Rattle.std.proofs.Common.{sym, ap, ◌∙◌, arith, lit<}
+use Rattle.std.proofs.Common.{sym, ap, ◌∙◌, arith, lit<, eq-eqb, ne_eqb, lt-ltb, le-ltb}
 use Rattle.std.proofs.Math.Option.{none, some}
-use borrow.Author.Tests.{eq-eqb, ne_eqb, lt-ltb, le-ltb}
 use Rattle.machine.specs.Machine.{Exit, process}
 use Rattle.machine.specs.Exits.{found, free_cell, has_room, message_due}
 use Rattle.layout.specs.Table.{slot}

@@ -1,10 +1,9 @@
 -- A process goes, and its parent, where it lives, is told.
 use Rattle.std.specs.Prelude.{◌≡◌, false, List, ℕ, suc, ◌-◌, ◌<◌}
 use Rattle.std.proofs.Math.Path.{sym, ap, subst}
-use Rattle.std.proofs.Common.{◌∙◌, arith}
+use Rattle.std.proofs.Common.{◌∙◌, arith, lt-ltb}
 use Rattle.std.proofs.Math.Bool.{true}
 use Rattle.std.proofs.Math.Option.{some}
-use borrow.Author.Tests.{lt-ltb}
 use Rattle.std.proofs.Math.ListN.{length}
 use Rattle.machine.specs.Basics.{is_none}
 use Rattle.machine.specs.Machine.{Machine, Process, process, pid_of}

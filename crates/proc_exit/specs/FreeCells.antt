@@ -1,10 +1,9 @@
 -- Which cells are free once a process has gone, and whether a message is due.
 use Rattle.std.specs.Prelude.{◌≡◌, Bool, true, List, [], ◌∷◌, ◌++◌, map, ℕ, zero, suc, ◌+◌, ◌≤◌, ◌<◌, eqb, length, get_or, set}
 use Rattle.std.proofs.Math.Path.{refl, ap}
-use Rattle.std.proofs.Common.{sym, eq-eqb}
+use Rattle.std.proofs.Common.{sym, eq-eqb, arith}
 use Rattle.std.proofs.Math.Bool.{false, not}
 use Rattle.std.proofs.Math.Option.{Option, none, some}
-use native.Mathlib.Omega.{arith}
 use Rattle.std.proofs.lemmas.Bool.{not-true, not-false}
 use Rattle.lists.specs.Lists.{bit, each-get, count_concat_set, highest-some, highest-none, elem-none}
 use Rattle.machine.specs.Basics.{is_none, elem, count, concat_map}

@@ -1,8 +1,7 @@
 -- The parent is told: it has one child less, and below 128 exits one more, for which its waitr is woken.
-use Rattle.std.specs.Prelude.{◌≡◌, Bool, ℕ, ◌-◌, ◌≤◌, ◌<◌, length}
+use Rattle.std.specs.Prelude.{◌≡◌, Bool, ℕ, ◌-◌, ◌≤◌, ◌<◌, length, List, ◌∷◌}
 use Rattle.std.proofs.Math.Path.{refl, sym, ap, ap₂}
 use Rattle.std.proofs.Common.{subst, ◌∙◌, arith, lt-ltb, le-ltb, lit<}
-use mathlib.Core.List.{List, ◌∷◌}
 use Rattle.std.proofs.Math.Option.{Option, some}
 use Rattle.std.proofs.lemmas.List.{length-map}
 use Rattle.machine.specs.Machine.{Machine, Process, process}

@@ -1,8 +1,7 @@
 -- name: what the code shows at each return.
-use Rattle.std.specs.Prelude.{◌≡◌, Bool, true, false, ℕ, ◌-◌, ◌≤◌, length}
+use Rattle.std.specs.Prelude.{◌≡◌, Bool, true, false, ℕ, ◌-◌, ◌≤◌, length, List, []}
 use Rattle.std.proofs.Math.Path.{refl, ap}
 use Rattle.std.proofs.Common.{sym, ◌∙◌, le-leb}
-use mathlib.Core.List.{List, []}
 use Rattle.std.proofs.Math.Option.{some}
 use Rattle.machine.specs.Machine.{process}
 use Rattle.machine.specs.Step.{name}

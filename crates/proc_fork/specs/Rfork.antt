@@ -1,8 +1,7 @@
 -- rfork: what the code shows at each return.
 use Rattle.std.specs.Prelude.{◌≡◌, Bool, true, false, List, ℕ, ◌-◌, ◌^◌, ◌≤◌, ◌<◌}
 use Rattle.std.proofs.Math.Path.{refl}
-use Rattle.std.proofs.Common.{sym, subst, ◌∙◌, arith}
-use borrow.Author.Tests.{lt-ltb, le-leb}
+use Rattle.std.proofs.Common.{sym, subst, ◌∙◌, arith, lt-ltb, le-leb}
 use Rattle.machine.specs.Step.{rfork}
 use Rattle.machine.specs.Flags.{has}
 use Rattle.machine.specs.Table.{in_range}

@@ -1,9 +1,8 @@
 -- The dispatched process goes on where its call left off: what the code shows at each return.
-use Rattle.std.specs.Prelude.{◌≡◌, refl, Bool, ◌&&◌, ℕ, zero, suc, ◌≤◌, length, drop}
+use Rattle.std.specs.Prelude.{◌≡◌, refl, Bool, ◌&&◌, ℕ, zero, suc, ◌≤◌, length, drop, List, [], ◌++◌}
 use Rattle.std.proofs.Common.{sym, ap, ◌∙◌, arith}
 use Rattle.std.proofs.Math.Path.{subst}
 use Rattle.std.proofs.Math.Bool.{false}
-use mathlib.Core.List.{List, [], ◌++◌}
 use Rattle.machine.specs.Machine as machine
 use Rattle.machine.specs.Machine.{process, condition}
 use Rattle.machine.specs.Good.{SleepsOn, ResumeInRange}

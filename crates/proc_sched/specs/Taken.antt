@@ -1,8 +1,8 @@
 -- Whether a woken sleeper would sleep again where another is asleep: what the code shows at each return.
 use Rattle.std.specs.Prelude.{◌≡◌, Bool, true, false, not, List, ℕ, zero, suc, ◌+◌, ◌<◌}
 use Rattle.std.proofs.Math.Path.{refl}
-use Rattle.std.proofs.Common.{sym, ap, subst, ◌∙◌, arith}
-use borrow.Author.Tests.{not-true, not-false, ne_eqb}
+use Rattle.std.proofs.Common.{sym, ap, subst, ◌∙◌, arith, ne_eqb}
+use Rattle.std.proofs.lemmas.Bool.{not-true, not-false}
 use Rattle.machine.specs.Good.{ResumeInRange}
 use Rattle.machine.specs.Table as table
 use Rattle.state.specs.Fields as fields

@@ -1,8 +1,7 @@
 -- A new process in a free record: what it makes of the memory, of the machine and of what is kept.
-use Rattle.std.specs.Prelude.{◌≡◌, ℕ, ◌<◌, length}
+use Rattle.std.specs.Prelude.{◌≡◌, ℕ, ◌<◌, length, List, ◌++◌, map}
 use Rattle.std.proofs.Math.Path.{refl, sym}
 use Rattle.std.proofs.Common.{ap, ◌∙◌, arith}
-use mathlib.Core.List.{List, ◌++◌, map}
 use Rattle.machine.specs.Basics.{elem}
 use Rattle.machine.specs.Machine as machine
 use Rattle.machine.specs.Machine.{Process, free}

@@ -1,8 +1,7 @@
 -- Where the record of a process in no place alone differs, the places and the message cells are kept.
-use Rattle.std.specs.Prelude.{◌≡◌, ◌⊎◌}
+use Rattle.std.specs.Prelude.{◌≡◌, ◌⊎◌, ℕ, suc, ◌+◌, ◌<◌}
 use Rattle.std.proofs.Math.Path.{refl, sym, ap, subst, subst₃}
 use Rattle.std.proofs.Common.{◌∙◌, arith}
-use Prim.Native.Nat.{ℕ, suc, ◌+◌, ◌<◌}
 use Rattle.machine.specs.Basics.{elem}
 use Rattle.machine.specs.Machine.{Sizes, asleep}
 use Rattle.layout.specs.Memory.{Memory}

@@ -1,8 +1,7 @@
 -- What follows where the record of one process alone differs: of the other records, of the machine, and of what is kept.
-use Rattle.std.specs.Prelude.{if◌then◌else◌, ◌≡◌, ℕ, ◌+◌, ◌*◌, ◌<◌}
+use Rattle.std.specs.Prelude.{if◌then◌else◌, ◌≡◌, ℕ, ◌+◌, ◌*◌, ◌<◌, map}
 use Rattle.std.proofs.Math.Path.{refl, ap}
 use Rattle.std.proofs.Common.{◌∙◌, arith}
-use mathlib.Core.List.{map}
 use Rattle.std.proofs.Math.Dec.{eqb}
 use Rattle.machine.specs.Basics.{elem}
 use Rattle.machine.specs.Machine.{Sizes, free, process, asleep}

@@ -1,9 +1,7 @@
 -- One record's exits become others: what that makes of the cells, of each record, and of the machine.
-use Rattle.std.specs.Prelude.{◌≡◌, refl, Bool, true, false, eqb}
+use Rattle.std.specs.Prelude.{◌≡◌, refl, Bool, true, false, eqb, List, [], ◌∷◌, map, ℕ, zero, suc, ◌≤◌}
 use Rattle.std.proofs.Math.Path.{sym, ap}
 use Rattle.std.proofs.Common.{subst, ◌∙◌, eqb-true}
-use mathlib.Core.List.{List, [], ◌∷◌, map}
-use Prim.Native.Nat.{ℕ, zero, suc, ◌≤◌}
 use Rattle.std.proofs.lemmas.Bool.{eqb-false}
 use Rattle.std.proofs.Math.ListN.{length}
 use Rattle.machine.specs.Basics.{count}

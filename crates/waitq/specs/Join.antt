@@ -1,8 +1,7 @@
 -- One change of a record's exits after another, and none.
-use Rattle.std.specs.Prelude.{◌≡◌, refl, List, map, length}
+use Rattle.std.specs.Prelude.{◌≡◌, refl, List, map, length, ℕ, ◌<◌}
 use Rattle.std.proofs.Common.{sym, subst, ◌∙◌, arith, get_or-set_same, set-set}
 use Rattle.std.proofs.Math.Path.{ap}
-use Prim.Native.Nat.{ℕ, ◌<◌}
 use Rattle.machine.specs.Machine as machine
 use Rattle.machine.specs.Machine.{Machine, Process, Exit, free, process}
 use Rattle.machine.specs.Update.{with_process, with_exits}

@@ -1,7 +1,6 @@
 -- What the loop over all records shows of their exits.
 use Rattle.std.specs.Prelude.{if◌then◌else◌, ◌≡◌, refl, Bool, true, false, List, ℕ, ◌+◌, ◌*◌, ◌≤◌, ◌<◌}
-use Rattle.std.proofs.Common.{sym, subst, ◌∙◌, add-one, arith, ne_eqb}
-use borrow.Author.Count.{below_more}
+use Rattle.std.proofs.Common.{sym, subst, ◌∙◌, add-one, arith, ne_eqb, below_more}
 use Rattle.layout.specs.Memory.{Memory}
 use Rattle.state.specs.Fields as fields
 use Rattle.state.specs.Abs.{is_set}

@@ -1,5 +1,5 @@
 -- `ages::age_in` meets its contract: its return cites its law of specs/In.antt.
-use mathlib.Core.Path.{refl}
+use Rattle.std.specs.Prelude.{refl}
 use Rattle.state.specs.Fields.{youngest}
 use Rattle.ages.specs.Ties.{tie_asks}
 use Rattle.ages.specs.In.{aged_in}

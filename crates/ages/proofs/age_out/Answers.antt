@@ -1,5 +1,5 @@
 -- `ages::age_out` meets its contract: its return cites its law of specs/Out.antt.
-use mathlib.Core.Path.{refl}
+use Rattle.std.specs.Prelude.{refl}
 use Rattle.state.specs.Fields.{older, younger}
 use Rattle.ages.specs.Ties.{tie_asks}
 use Rattle.ages.specs.Out.{aged_out}

@@ -1,7 +1,7 @@
 -- `bounds::in_range` meets its contract: by each group of columns, and by what a byte can be.
 use Rattle.bounds.specs.Groups.{group_in}
 use Rattle.bounds.specs.InRange.{group_no, state_of_lem}
-use native.Mathlib.Omega.{arith}
+use Rattle.std.proofs.Common.{arith}
 use Rattle.std.proofs.Common.{rules}
 use Rattle.std.proofs.lemmas.Bool.{not_from_true}
 use Rattle.std.proofs.lemmas.Bool.{not_from_false}

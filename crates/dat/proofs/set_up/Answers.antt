@@ -1,7 +1,6 @@
 -- `dat::set_up` meets its contract: each need by its law.
-use native.Mathlib.Omega.{arith}
 use Rattle.dat.specs.Own.{ran, run-low, run_small}
-use Rattle.std.proofs.Common.{rules}
+use Rattle.std.proofs.Common.{rules, arith}
 use Rattle.dat.proofs.set_up.Goals as goal
 
 pub overflow_add-i : goal.overflow_add-i

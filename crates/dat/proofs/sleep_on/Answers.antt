@@ -1,7 +1,6 @@
 -- `dat::sleep_on` meets its contract: each need by its law.
-use native.Mathlib.Omega.{arith}
 use Rattle.dat.specs.Rendez.{sleep-low, sleep-small, slept}
-use Rattle.std.proofs.Common.{rules}
+use Rattle.std.proofs.Common.{rules, arith}
 use Rattle.dat.proofs.sleep_on.Goals as goal
 
 pub overflow_add-i : goal.overflow_add-i

@@ -1,7 +1,7 @@
 -- `decode::decode` meets its contract: each need by its law.
 use Rattle.decode.specs.Decodes.{decodes-short, decodes-step, decodes-unfit, decodes_unmarked}
 use Rattle.decode.specs.Fitting.{fitted}
-use native.Mathlib.Omega.{arith}
+use Rattle.std.proofs.Common.{arith}
 use Rattle.decode.proofs.decode.Goals as goal
 
 pub returns-then-b-lt2 : goal.returns-then-b-lt2

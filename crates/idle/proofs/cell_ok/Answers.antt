@@ -1,5 +1,5 @@
 -- `idle::cell_ok` meets its contract, by each way out.
-use native.Mathlib.Omega.{arith}
+use Rattle.std.proofs.Common.{arith}
 use Rattle.idle.proofs.cell_ok.Goals as goal
 
 pub returns-then-next-ne0 : goal.returns-then-next-ne0

@@ -1,6 +1,5 @@
 -- `idle::cells_ok` meets its contract: the cells below c have nothing where they are free. The measure is how many are left.
-use mathlib.Core.Path.{refl}
-use Prim.Native.Nat.{◌-◌}
+use Rattle.std.specs.Prelude.{refl, ◌-◌}
 use Rattle.rules.specs.Code.{mem_in}
 use Rattle.rules.specs.Loop.{Passing, pass_start, pass_more, pass_end, passed, failed}
 use Rattle.idle.specs.Idle.{CellIdle}

@@ -1,5 +1,5 @@
 -- `idle::record_ok` meets its contract, by each way out.
-use native.Mathlib.Omega.{arith}
+use Rattle.std.proofs.Common.{arith}
 use Rattle.idle.proofs.record_ok.Goals as goal
 
 pub returns-then-older-ne0 : goal.returns-then-older-ne0

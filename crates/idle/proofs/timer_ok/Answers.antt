@@ -1,5 +1,5 @@
 -- `idle::timer_ok` meets its contract, by each way out.
-use native.Mathlib.Omega.{arith}
+use Rattle.std.proofs.Common.{arith}
 use Rattle.idle.proofs.timer_ok.Goals as goal
 
 pub returns-then-link-ne0 : goal.returns-then-link-ne0

@@ -1,6 +1,5 @@
 -- `idle::timers_ok` meets its contract: the timers below t have no link where they are off the queue. The measure is how many are left.
-use mathlib.Core.Path.{refl}
-use Prim.Native.Nat.{◌+◌, ◌-◌}
+use Rattle.std.specs.Prelude.{refl, ◌+◌, ◌-◌}
 use Rattle.rules.specs.Code.{mem_in}
 use Rattle.rules.specs.Loop.{Passing, pass_start, pass_more, pass_end, passed, failed}
 use Rattle.idle.specs.Idle.{TimerIdle}

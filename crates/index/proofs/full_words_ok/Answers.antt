@@ -1,5 +1,5 @@
 -- `index::full_words_ok` meets its contract: the words below w are as computed.
-use Prim.Native.Nat.{◌-◌, ◌*◌}
+use Rattle.std.specs.Prelude.{◌-◌, ◌*◌}
 use Rattle.index.specs.Compare.{Comparing, compare-start, compare-more, compare-no, compare-yes}
 use Rattle.index.specs.Words.{full_word}
 use Rattle.index.specs.Full.{full_cells_lem}

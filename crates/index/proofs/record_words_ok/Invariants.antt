@@ -1,5 +1,5 @@
 -- `index::record_words_ok` meets its contract: the words below w are as computed.
-use Prim.Native.Nat.{◌-◌}
+use Rattle.std.specs.Prelude.{◌-◌}
 use Rattle.index.specs.Compare.{Comparing, compare-start, compare-more, compare-no, compare-rest}
 use Rattle.index.specs.Gather.{unused}
 use Rattle.index.specs.Words.{record_word}

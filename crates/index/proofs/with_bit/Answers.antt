@@ -1,5 +1,5 @@
 -- `index::with_bit` meets its contract, by the bit.
-use native.Mathlib.Omega.{arith}
+use Rattle.std.proofs.Common.{arith}
 use Rattle.index.proofs.with_bit.Goals as goal
 
 pub returns-then-bit : goal.returns-then-bit

@@ -1,6 +1,5 @@
 -- `index::zeros_from` meets its contract: the words below w are 0.
-use mathlib.Core.Path.{refl}
-use Prim.Native.Nat.{◌-◌}
+use Rattle.std.specs.Prelude.{refl, ◌-◌}
 use Rattle.layout.specs.Table.{slot}
 use Rattle.state.specs.Places.{cell_in}
 use Rattle.index.specs.Compare.{Comparing, compare-start, compare-more, compare-no, compare-yes}

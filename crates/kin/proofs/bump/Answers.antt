@@ -1,8 +1,7 @@
 -- `kin::bump` meets its contract.
-use Prim.Native.Nat.{◌-◌}
-use native.Mathlib.Omega.{arith}
+use Rattle.std.specs.Prelude.{◌-◌}
 use Rattle.kin.specs.Count.{bump-none, bump-some}
-use Rattle.std.proofs.Common.{rules}
+use Rattle.std.proofs.Common.{rules, arith}
 use Rattle.kin.proofs.bump.Goals as goal
 
 pub returns-then-link-eq0 : goal.returns-then-link-eq0

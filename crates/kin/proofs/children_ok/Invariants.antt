@@ -1,5 +1,5 @@
 -- `kin::children_ok` meets its contract: the records below i pass.
-use Prim.Native.Nat.{◌-◌}
+use Rattle.std.specs.Prelude.{◌-◌}
 use Rattle.state.specs.Places.{sizes_in}
 use Rattle.rules.specs.Code.{mem_in}
 use Rattle.rules.specs.Loop.{Passing, pass_start}

@@ -1,5 +1,5 @@
 -- `kin::fill_pids` meets its contract: the array holds the pids so far, and the links spell the rest.
-use Prim.Native.Nat.{◌-◌}
+use Rattle.std.specs.Prelude.{◌-◌}
 use Rattle.state.specs.Places.{sizes_in}
 use Rattle.rules.specs.Code.{mem_in}
 use Rattle.kin.specs.Living.{Filling, fill_start, fill-room, fill_more, fill_end}

@@ -1,8 +1,7 @@
 -- `kin::kin_link` meets its contract, by each way out.
-use native.Mathlib.Omega.{arith}
 use Rattle.kin.specs.Link.{link-free, link-none, link-zero, link-some, link-other}
 use Rattle.kin.specs.Kin.{parent-range}
-use Rattle.std.proofs.Common.{rules}
+use Rattle.std.proofs.Common.{rules, arith}
 use Rattle.kin.proofs.kin_link.Goals as goal
 
 pub returns-then-pid-eq0 : goal.returns-then-pid-eq0

@@ -2,7 +2,7 @@
 use Rattle.machine.specs.Basics.{ascii}
 use Rattle.machine.specs.Listing.{header}
 use Rattle.listing.specs.Finish.{begin-put}
-use mathlib.Core.Path.{refl}
+use Rattle.std.specs.Prelude.{refl}
 use Rattle.listing.proofs.begin.Goals as goal
 
 pub returns : goal.returns

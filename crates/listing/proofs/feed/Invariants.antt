@@ -1,8 +1,7 @@
 -- `listing::feed` meets its contract: it has gone so far. The measure is what is left of the chunk.
 use Rattle.listing.specs.Feeding.{Feeding, feed-start, feed-turn, feed-more, feed-full, feed-read}
-use Prim.Native.Nat.{◌-◌}
-use lib.ListN.{length}
-use native.Mathlib.Omega.{arith}
+use Rattle.std.specs.Prelude.{◌-◌, length}
+use Rattle.std.proofs.Common.{arith}
 use Rattle.listing.proofs.feed.Given as goal
 
 abbrev pub invariant-loop-at : goal.invariant-loop-at

@@ -1,7 +1,7 @@
 -- `listing::start` meets its contract.
 use Rattle.machine.specs.Listing.{steps_sizes}
 use Rattle.listing.specs.Start.{started}
-use mathlib.Core.Path.{refl}
+use Rattle.std.specs.Prelude.{refl}
 use Rattle.listing.proofs.start.Goals as goal
 
 pub returns : goal.returns

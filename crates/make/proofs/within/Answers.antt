@@ -1,5 +1,6 @@
 -- `make::within` meets its contract: by the first test, and where that holds by the second.
-use borrow.Author.Tests.{le-leb, lt-leb}
+use Rattle.std.proofs.Common.{le-leb}
+use Rattle.std.proofs.lemmas.Bool.{lt-leb}
 use Rattle.make.proofs.within.Goals as goal
 
 pub returns-then-a-v : goal.returns-then-a-v

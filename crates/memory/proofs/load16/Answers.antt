@@ -1,6 +1,6 @@
 -- `memory::load16` meets its contract: `le_split` at two halves of one byte.
 use Rattle.memory.specs.Le.{le_split}
-use native.Mathlib.Omega.{arith}
+use Rattle.std.proofs.Common.{arith}
 use Rattle.memory.proofs.load16.Goals as goal
 
 pub returns : goal.returns

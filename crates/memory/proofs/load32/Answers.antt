@@ -1,6 +1,6 @@
 -- `memory::load32` meets its contract: `le_split` at two halves of two bytes.
 use Rattle.memory.specs.Le.{le_split}
-use native.Mathlib.Omega.{arith}
+use Rattle.std.proofs.Common.{arith}
 use Rattle.memory.proofs.load32.Goals as goal
 
 pub returns : goal.returns

@@ -1,6 +1,6 @@
 -- `message::copy` meets its contract: the first `i` bytes are there, and the rest are as they were. The measure is what is left.
 use Rattle.message.specs.Cut.{Copying, copy_start, copy_more, copy-end}
-use Prim.Native.Nat.{◌-◌}
+use Rattle.std.specs.Prelude.{◌-◌}
 use Rattle.message.proofs.copy.Given as goal
 
 abbrev pub invariant-loop-i : goal.invariant-loop-i

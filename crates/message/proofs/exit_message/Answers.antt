@@ -1,7 +1,6 @@
 -- `message::exit_message` meets its contract: each way out cites its law of specs/Called.antt.
 use Rattle.message.specs.Called.{part_fits, message-short, message-named, message-done}
-use native.Mathlib.Omega.{arith}
-use lib.Seq.{length-take-le}
+use Rattle.std.proofs.Common.{arith, length-take-le}
 use Rattle.message.proofs.exit_message.Goals as goal
 
 pub returns-then-cell-lt127 : goal.returns-then-cell-lt127

@@ -1,7 +1,6 @@
 -- `message::name_len` meets its contract: no byte passed is zero. The measure is what is left of the name.
 use Rattle.message.specs.Text.{Naming, name-start, name-more, name-zero, name-end}
-use Prim.Native.Nat.{◌-◌}
-use lib.ListN.{length}
+use Rattle.std.specs.Prelude.{◌-◌, length}
 use Rattle.message.proofs.name_len.Given as goal
 
 abbrev pub invariant-loop-i : goal.invariant-loop-i

@@ -1,6 +1,6 @@
 -- `message::put_digits` meets its contract: the digits from `at` are there, and those of `n` are left. The measure is `n`.
 use Rattle.message.specs.Digits.{Writing, digits-start, digits_more, digits-end}
-use native.Mathlib.Omega.{arith}
+use Rattle.std.proofs.Common.{arith}
 use Rattle.std.proofs.Common.{rules}
 use Rattle.message.proofs.put_digits.Goals as goal
 

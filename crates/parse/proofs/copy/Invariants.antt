@@ -1,7 +1,6 @@
 -- `parse::copy` meets its contract: the first `i` bytes are there. The measure is how many are left.
 use Rattle.parse.specs.Puts.{Copying, copying_start, copying_more, copied}
-use Prim.Native.Nat.{◌-◌}
-use lib.ListN.{length}
+use Rattle.std.specs.Prelude.{◌-◌, length}
 use Rattle.parse.proofs.copy.Given as goal
 
 abbrev pub invariant-loop-i : goal.invariant-loop-i

@@ -1,6 +1,6 @@
 -- `parse::store` meets its contract: the first `j` numbers are there. The measure is how many are left.
 use Rattle.parse.specs.Stores.{Storing, storing_start, storing_more, stored}
-use Prim.Native.Nat.{◌-◌}
+use Rattle.std.specs.Prelude.{◌-◌}
 use Rattle.parse.proofs.store.Given as goal
 
 abbrev pub invariant-loop-j : goal.invariant-loop-j

@@ -2,8 +2,7 @@
 use Rattle.machine.specs.Print.{print_answer}
 use Rattle.machine.specs.Basics.{ascii}
 use Rattle.print.specs.Put.{put_join, put_as}
-use native.Mathlib.Omega.{arith}
-use mathlib.Core.List.{append_assoc}
+use Rattle.std.proofs.Common.{arith, append_assoc}
 use Rattle.print.proofs.put_run_child.Goals as goal
 
 pub returns : goal.returns

@@ -1,6 +1,6 @@
 -- `proc_exit::depart` meets its contract: each need by its law.
 use Rattle.proc_exit.specs.Depart.{depart-load, depart-tell, departed_alone, departed-told}
-use native.Mathlib.Omega.{arith}
+use Rattle.std.proofs.Common.{arith}
 use Rattle.proc_exit.proofs.depart.Goals as goal
 
 pub load-p-requires : goal.load-p-requires

@@ -1,6 +1,6 @@
 -- `proc_exit::exit` meets its contract: each need by its law.
 use Rattle.proc_exit.specs.Exit.{exit-marked, exit-nobody, exit-pexit, exit-rest}
-use native.Mathlib.Omega.{arith}
+use Rattle.std.proofs.Common.{arith}
 use Rattle.proc_exit.proofs.exit.Goals as goal
 
 pub returns-then-in_interrupt : goal.returns-then-in_interrupt

@@ -1,5 +1,5 @@
 -- `proc_fork::adopt` meets its contract: each need by its law.
-use native.Mathlib.Omega.{arith}
+use Rattle.std.proofs.Common.{arith}
 use Rattle.proc_fork.specs.Child.{adopt-lives, adopt-room, adopt-link}
 use Rattle.proc_fork.proofs.adopt.Goals as goal
 

@@ -1,7 +1,6 @@
 -- `proc_fork::name` meets its contract: each need by its law.
-use native.Mathlib.Omega.{arith}
 use Rattle.proc_fork.specs.Name.{name-asks, name_done, name-marked, name-nobody}
-use Rattle.std.proofs.Common.{rules}
+use Rattle.std.proofs.Common.{rules, arith}
 use Rattle.proc_fork.proofs.name.Goals as goal
 
 pub returns-then-in_interrupt : goal.returns-then-in_interrupt

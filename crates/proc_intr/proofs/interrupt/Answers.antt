@@ -1,7 +1,6 @@
 -- `proc_intr::interrupt` meets its contract. The invariant: from here the definition goes on to where it takes the first bytes. The measure
 -- is the firings owed.
-use mathlib.Core.Path.{◌≡◌}
-use lib.ListN.{length}
+use Rattle.std.specs.Prelude.{◌≡◌, length}
 use Rattle.proc_intr.specs.Owed.{owed_in}
 use Rattle.proc_intr.specs.Interrupt.{Interrupting, int_start, int_less, int_room, int_step, int_end}
 use Rattle.std.proofs.Common.{rules}

@@ -1,6 +1,6 @@
 -- `proc_sched::check_tsleep` meets its contract: each need by its law.
 use Rattle.proc_sched.specs.Check.{tsleep-again, tsleep-small, tsleep-fired, tsleep-queued, tsleep-sleeps, tsleep-true}
-use native.Mathlib.Omega.{arith}
+use Rattle.std.proofs.Common.{arith}
 use Rattle.std.proofs.lemmas.Bool.{not_from_true}
 use Rattle.proc_sched.proofs.check_tsleep.Goals as goal
 

@@ -1,6 +1,6 @@
 -- `proc_sched::return_tsleep` meets its contract: each need by its law.
 use Rattle.proc_sched.specs.Check.{out_small, out_del, out_limbo, out_runs}
-use native.Mathlib.Omega.{arith}
+use Rattle.std.proofs.Common.{arith}
 use Rattle.proc_sched.proofs.return_tsleep.Goals as goal
 
 pub overflow_add-kernel : goal.overflow_add-kernel

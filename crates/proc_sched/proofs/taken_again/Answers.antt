@@ -1,6 +1,6 @@
 -- `proc_sched::taken_again` meets its contract: each need by its law.
 use Rattle.proc_sched.specs.Taken.{again-fired, again-nothing, again-own, again-small, again-qlock, again-queued, again-sleep, again-slept, again-tsleep, again-wait}
-use native.Mathlib.Omega.{arith}
+use Rattle.std.proofs.Common.{arith}
 use Rattle.proc_sched.proofs.taken_again.Goals as goal
 
 pub taken-requires : goal.taken-requires

@@ -1,6 +1,6 @@
 -- `proc_wait::copy_message` meets its contract: byte by byte.
-use Prim.Native.Nat.{◌-◌}
-use native.Mathlib.Omega.{arith}
+use Rattle.std.specs.Prelude.{◌-◌}
+use Rattle.std.proofs.Common.{arith}
 use Rattle.proc_wait.specs.Copy.{Copying, copy_start, copy_more, copy-end}
 use Rattle.proc_wait.proofs.copy_message.Goals as goal
 

@@ -1,6 +1,6 @@
 -- `proc_wait::take_child` meets its contract: each need by its law.
 use Rattle.proc_wait.specs.Wait.{child-some, child-cell, child-copy, child-reach, took-child}
-use native.Mathlib.Omega.{arith}
+use Rattle.std.proofs.Common.{arith}
 use Rattle.proc_wait.proofs.take_child.Goals as goal
 
 pub get16-first-requires : goal.get16-first-requires

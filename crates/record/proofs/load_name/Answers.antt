@@ -1,6 +1,6 @@
 -- `record::load_name` meets its contract: byte by byte.
-use Prim.Native.Nat.{◌-◌}
-use native.Mathlib.Omega.{arith}
+use Rattle.std.specs.Prelude.{◌-◌}
+use Rattle.std.proofs.Common.{arith}
 use Rattle.record.specs.Loads.{Naming, naming_start, naming_more, naming_end}
 use Rattle.record.proofs.load_name.Goals as goal
 

@@ -1,8 +1,8 @@
 -- `records::set_nchild` meets its contract: each need by its law.
 use Rattle.records.specs.Own.{living-low}
 use Rattle.records.specs.Nchild.{nchild-set}
-use Prim.Native.Nat.{◌≤◌}
-use native.Mathlib.Omega.{arith}
+use Rattle.std.specs.Prelude.{◌≤◌}
+use Rattle.std.proofs.Common.{arith}
 use Rattle.std.proofs.Common.{rules}
 use Rattle.records.proofs.set_nchild.Goals as goal
 

@@ -1,9 +1,6 @@
 -- `run::refuse_all` meets its contract: each need by its law.
-use mathlib.Core.Path.{refl}
-use mathlib.Core.List.{List}
-use Prim.Native.Nat.{ℕ, ◌-◌}
-use native.Mathlib.Omega.{arith}
-use lib.ListN.{length}
+use Rattle.std.specs.Prelude.{refl, List, ℕ, ◌-◌, length}
+use Rattle.std.proofs.Common.{arith}
 use Rattle.state.specs.WellFormed.{WellFormed}
 use Rattle.run.specs.Steps.{Whole, end_none, end-some}
 use Rattle.run.specs.One.{one-refused}

@@ -1,12 +1,9 @@
 -- `run::run_formed` meets its contract: each need by its law.
-use mathlib.Core.Path.{◌≡◌, refl, ◌∙◌}
-use Prim.Native.Nat.{◌-◌}
-use native.Mathlib.Omega.{arith}
-use lib.ListN.{length}
+use Rattle.std.specs.Prelude.{◌≡◌, refl, ◌-◌, length}
 use Rattle.step.specs.After.{WellIn}
 use Rattle.run.specs.Steps.{Whole, end_none, end-some}
 use Rattle.run.specs.Loop.{Reached, SoFar, reached_start, so_far-start, ran-ended, ran-full, reached_more, so_far_more}
-use Rattle.std.proofs.Common.{rules}
+use Rattle.std.proofs.Common.{rules, ◌∙◌, arith}
 use Rattle.run.proofs.run_formed.Goals as goal
 
 pub loop-answers-init : goal.loop-answers-init

@@ -1,8 +1,6 @@
 -- `run::run_formed` meets its contract: each need by its law.
-use mathlib.Core.Path.{◌≡◌, refl, ◌∙◌}
-use Prim.Native.Nat.{◌-◌}
-use native.Mathlib.Omega.{arith}
-use lib.ListN.{length}
+use Rattle.std.specs.Prelude.{◌≡◌, refl, ◌-◌, length}
+use Rattle.std.proofs.Common.{◌∙◌, arith}
 use Rattle.step.specs.After.{WellIn}
 use Rattle.run.specs.Steps.{Whole, end_none, end-some}
 use Rattle.run.specs.Loop.{Reached, SoFar, reached_start, so_far-start, ran-ended, ran-full, reached_more, so_far_more}

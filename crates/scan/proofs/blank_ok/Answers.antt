@@ -1,6 +1,5 @@
 -- `scan::blank_ok` meets its contract, by each way out.
-use native.Mathlib.Omega.{arith}
-use mathlib.Core.Logic.{inl, inr}
+use Rattle.std.proofs.Common.{arith, inl, inr}
 use Rattle.state.specs.Blanks.{blank-sleep, blank-lock, blank-both, no-condition, no-object}
 use Rattle.scan.proofs.blank_ok.Goals as goal
 

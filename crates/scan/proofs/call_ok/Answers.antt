@@ -1,5 +1,5 @@
 -- `scan::call_ok` meets its contract, by each way out.
-use native.Mathlib.Omega.{arith}
+use Rattle.std.proofs.Common.{arith}
 use Rattle.scan.specs.Records.{call-running, call-other}
 use Rattle.scan.proofs.call_ok.Goals as goal
 

@@ -1,5 +1,5 @@
 -- `scan::held_ok` meets its contract, by each way out.
-use native.Mathlib.Omega.{arith}
+use Rattle.std.proofs.Common.{arith}
 use Rattle.scan.proofs.held_ok.Goals as goal
 
 pub returns-then-head-ne0 : goal.returns-then-head-ne0

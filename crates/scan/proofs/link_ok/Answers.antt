@@ -1,5 +1,5 @@
 -- `scan::link_ok` meets its contract, by each way out.
-use native.Mathlib.Omega.{arith}
+use Rattle.std.proofs.Common.{arith}
 use Rattle.state.specs.Blanks.{linked-ready, linked-waits, no-link, no-wait}
 use Rattle.scan.proofs.link_ok.Goals as goal
 

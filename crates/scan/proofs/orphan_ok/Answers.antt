@@ -1,5 +1,5 @@
 -- `scan::orphan_ok` meets its contract, by each way out.
-use native.Mathlib.Omega.{arith}
+use Rattle.std.proofs.Common.{arith}
 use Rattle.scan.proofs.orphan_ok.Goals as goal
 
 pub returns-then-parent-ne0 : goal.returns-then-parent-ne0

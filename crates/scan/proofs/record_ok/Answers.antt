@@ -1,5 +1,5 @@
 -- `scan::record_ok` meets its contract, by each way out.
-use native.Mathlib.Omega.{arith}
+use Rattle.std.proofs.Common.{arith}
 use Rattle.scan.specs.Records.{record_used, record_free}
 use Rattle.rules.specs.Loop.{passed, failed}
 use Rattle.std.proofs.lemmas.Bool.{not_from_true}

@@ -1,7 +1,6 @@
 -- `scan::records_ok` meets its contract: the records below i are right.
-use mathlib.Core.Path.{refl}
-use native.Mathlib.Omega.{arith}
-use Prim.Native.Nat.{◌-◌}
+use Rattle.std.specs.Prelude.{refl, ◌-◌}
+use Rattle.std.proofs.Common.{arith}
 use Rattle.state.specs.Places.{sizes_in}
 use Rattle.rules.specs.Code.{mem_in}
 use Rattle.rules.specs.Facts.{RecordOk}

@@ -1,7 +1,6 @@
 -- `scan::rendez_ok` meets its contract: the Rendez below r are right.
-use mathlib.Core.Path.{refl}
-use native.Mathlib.Omega.{arith}
-use Prim.Native.Nat.{◌-◌}
+use Rattle.std.specs.Prelude.{refl, ◌-◌}
+use Rattle.std.proofs.Common.{arith}
 use Rattle.rules.specs.Code.{mem_in}
 use Rattle.rules.specs.Facts.{RendezOk}
 use Rattle.rules.specs.Loop.{Passing, pass_start, pass_more, pass_end, passed, failed}

@@ -1,5 +1,5 @@
 -- `scan::sleep_ok` meets its contract, by each way out.
-use native.Mathlib.Omega.{arith}
+use Rattle.std.proofs.Common.{arith}
 use Rattle.scan.specs.Asks.{is-one_or_two}
 use Rattle.scan.specs.Records.{sleep-yes, sleep-no}
 use Rattle.scan.proofs.sleep_ok.Goals as goal

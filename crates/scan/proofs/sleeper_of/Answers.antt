@@ -1,5 +1,5 @@
 -- `scan::sleeper_of` meets its contract: the field is in range.
-use native.Mathlib.Omega.{arith}
+use Rattle.std.proofs.Common.{arith}
 use Rattle.scan.specs.Asks.{most-at}
 use Rattle.scan.proofs.sleeper_of.Goals as goal
 

@@ -1,5 +1,5 @@
 -- `scan::sleeps_here` meets its contract, by each way out.
-use native.Mathlib.Omega.{arith}
+use Rattle.std.proofs.Common.{arith}
 use Rattle.scan.specs.Asks.{one_or_two, is-one_or_two}
 use Rattle.scan.proofs.sleeps_here.Goals as goal
 

@@ -1,5 +1,5 @@
 -- `scan::up_of` meets its contract: the field is in range.
-use native.Mathlib.Omega.{arith}
+use Rattle.std.proofs.Common.{arith}
 use Rattle.scan.specs.Asks.{most-at}
 use Rattle.scan.proofs.up_of.Goals as goal
 

@@ -1,5 +1,5 @@
 -- `state::get32` meets its contract: the place is within the bytes, and what is read there is the cell.
-use native.Mathlib.Omega.{arith}
+use Rattle.std.proofs.Common.{arith}
 use Rattle.layout.specs.Memory.{reach-end, get_at}
 use Rattle.state.proofs.get32.Goals as goal
 

@@ -1,7 +1,6 @@
 -- `state::place_of` meets its contract: the region's start, the records before, and the place in the record.
-use native.Mathlib.Omega.{arith}
 use Rattle.state.specs.Shown.{part_small}
-use Rattle.std.proofs.Common.{rules}
+use Rattle.std.proofs.Common.{rules, arith}
 use Rattle.state.proofs.place_of.Goals as goal
 
 pub overflow_mul-result : goal.overflow_mul-result

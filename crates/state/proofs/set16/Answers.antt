@@ -1,5 +1,5 @@
 -- `state::set16` meets its contract: the place is within the bytes, and what is put there is the store.
-use native.Mathlib.Omega.{arith}
+use Rattle.std.proofs.Common.{arith}
 use Rattle.layout.specs.Memory.{reach-end, put-at}
 use Rattle.state.proofs.set16.Goals as goal
 

@@ -1,6 +1,6 @@
 -- `state::start_high` meets its contract: the start of each region, by the regions before it.
-use mathlib.Core.Path.{◌≡◌}
-use native.Mathlib.Omega.{arith}
+use Rattle.std.specs.Prelude.{◌≡◌}
+use Rattle.std.proofs.Common.{arith}
 use Rattle.layout.specs.Table.{start}
 use Rattle.state.proofs.start_low.Reads as start-low-reads
 use Rattle.state.proofs.start_high.Goals as goal

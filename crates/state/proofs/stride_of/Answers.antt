@@ -1,7 +1,6 @@
 -- `state::stride_of` meets its contract: the table in the code is the layout's.
-use native.Mathlib.Omega.{arith}
 use Rattle.state.specs.Shown.{stride-small}
-use Rattle.std.proofs.Common.{rules}
+use Rattle.std.proofs.Common.{rules, arith}
 use Rattle.state.proofs.stride_of.Goals as goal
 
 pub overflow_cast-result-2 : goal.overflow_cast-result-2

@@ -1,5 +1,5 @@
 -- `timer::readd` meets its contract: each return cites its law of specs/Readd.antt.
-use native.Mathlib.Omega.{arith}
+use Rattle.std.proofs.Common.{arith}
 use Rattle.timer.specs.Readd.{readd-fits, readded-own, readded-once, readded}
 use Rattle.timer.proofs.readd.Goals as goal
 

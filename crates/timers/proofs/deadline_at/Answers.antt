@@ -1,5 +1,5 @@
 -- `timers::deadline_at` meets its contract: by its law of specs/Read.antt.
-use native.Mathlib.Omega.{arith}
+use Rattle.std.proofs.Common.{arith}
 use Rattle.timers.specs.Read.{record_within, deadline_of}
 use Rattle.timers.proofs.deadline_at.Goals as goal
 

@@ -3,7 +3,7 @@
 use Rattle.timers.specs.Find.{Finding, DeadlineOf, from_link, head_near, find_start, find_step, find_less, find_end, find_stop}
 use Rattle.timers.specs.Read.{read_next}
 use Rattle.state.specs.Places.{mem_in}
-use lib.ListN.{length}
+use Rattle.std.specs.Prelude.{length}
 use Rattle.std.proofs.Common.{rules}
 use Rattle.timers.proofs.find_before.Goals as goal
 

@@ -2,7 +2,7 @@
 -- the length of what is behind.
 use Rattle.timers.specs.Seek.{Passed, behind_in, passed_first, passed-step, passed-less, passed-end, passed-stop, front-end, front-stop}
 use Rattle.state.specs.Places.{mem_in}
-use lib.ListN.{length}
+use Rattle.std.specs.Prelude.{length}
 use Rattle.timers.proofs.find_link.Given as goal
 
 abbrev pub invariant-loop-z : goal.invariant-loop-z

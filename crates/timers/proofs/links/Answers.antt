@@ -1,5 +1,5 @@
 -- `timers::links` meets its contract: there is room for a link before the links.
-use native.Mathlib.Omega.{arith}
+use Rattle.std.proofs.Common.{arith}
 use Rattle.timers.specs.Read.{links-room, links_of}
 use Rattle.timers.proofs.links.Goals as goal
 

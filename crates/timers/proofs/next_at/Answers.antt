@@ -1,5 +1,5 @@
 -- `timers::next_at` meets its contract: by its law of specs/Read.antt.
-use native.Mathlib.Omega.{arith}
+use Rattle.std.proofs.Common.{arith}
 use Rattle.timers.specs.Read.{link-within, next_of}
 use Rattle.timers.proofs.next_at.Goals as goal
 

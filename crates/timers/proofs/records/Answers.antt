@@ -1,5 +1,5 @@
 -- `timers::records` meets its contract: there is a record before the timers.
-use native.Mathlib.Omega.{arith}
+use Rattle.std.proofs.Common.{arith}
 use Rattle.timers.specs.Read.{records-room, records_of}
 use Rattle.timers.proofs.records.Goals as goal
 

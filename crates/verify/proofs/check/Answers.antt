@@ -1,5 +1,5 @@
 -- `verify::check` meets its contract: by each way out.
-use native.Mathlib.Omega.{arith}
+use Rattle.std.proofs.Common.{arith}
 use Rattle.exact.proofs.Exact.{decides-well}
 use Rattle.state.specs.Places.{sizes_in}
 use Rattle.verify.specs.Ways.{well-long, sizes_wrong, too_short}

@@ -1,5 +1,5 @@
 -- `waitq::add_exit` meets its contract: by its law of specs/AddCode.antt.
-use mathlib.Core.Path.{refl}
+use Rattle.std.specs.Prelude.{refl}
 use Rattle.waitq.specs.AddCode.{add_words, add-some, add_use, add-write, add_push, added}
 use Rattle.std.proofs.Common.{rules}
 use Rattle.waitq.proofs.add_exit.Goals as goal

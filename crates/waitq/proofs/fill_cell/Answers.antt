@@ -1,5 +1,5 @@
 -- `waitq::fill_cell` meets its contract: four stores.
-use native.Mathlib.Omega.{arith}
+use Rattle.std.proofs.Common.{arith}
 use Rattle.state.specs.Places.{wrote_4}
 use Rattle.waitq.specs.Push.{cell_stores}
 use Rattle.waitq.proofs.fill_cell.Goals as goal

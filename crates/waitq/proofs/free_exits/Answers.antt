@@ -1,5 +1,5 @@
 -- `waitq::free_exits` meets its contract: one exit after another.
-use native.Mathlib.Omega.{arith}
+use Rattle.std.proofs.Common.{arith}
 use Rattle.waitq.specs.Clear.{Clearing, clear-reach, clear-start, clear-take, clear_step, clear-end}
 use Rattle.waitq.proofs.free_exits.Goals as goal
 

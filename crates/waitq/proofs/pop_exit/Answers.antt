@@ -1,8 +1,7 @@
 -- `waitq::pop_exit` meets its contract: by its law of specs/PopCode.antt.
-use native.Mathlib.Omega.{arith}
 use Rattle.waitq.specs.Stored.{exits-reach, nexits-reach}
 use Rattle.waitq.specs.PopCode.{pop-some, pop-cell, pop-index, popped}
-use Rattle.std.proofs.Common.{rules}
+use Rattle.std.proofs.Common.{rules, arith}
 use Rattle.waitq.proofs.pop_exit.Goals as goal
 
 pub get16-link-requires : goal.get16-link-requires

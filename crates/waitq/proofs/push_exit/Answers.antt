@@ -1,8 +1,7 @@
 -- `waitq::push_exit` meets its contract: by its law of specs/PushCode.antt.
-use native.Mathlib.Omega.{arith}
 use Rattle.waitq.specs.Stored.{exits-reach, nexits-reach}
 use Rattle.waitq.specs.PushCode.{push-index, pushed}
-use Rattle.std.proofs.Common.{rules}
+use Rattle.std.proofs.Common.{rules, arith}
 use Rattle.waitq.proofs.push_exit.Goals as goal
 
 pub get16-first-requires : goal.get16-first-requires

@@ -1,5 +1,5 @@
 -- `waitq::take_exit` meets its contract: by its law of specs/TakeCode.antt.
-use native.Mathlib.Omega.{arith}
+use Rattle.std.proofs.Common.{arith}
 use Rattle.waitq.specs.TakeCode.{take-reach, take_some, take-drop, take-pop, took}
 use Rattle.waitq.proofs.take_exit.Goals as goal
 

@@ -1,7 +1,6 @@
 -- `waitq::wait_state` meets its contract: each return cites its law of specs/WaitCode.antt.
-use native.Mathlib.Omega.{arith}
 use Rattle.waitq.specs.WaitCode.{wait-index, wait-in_use, wait-take, wait-alone, wait-sleep}
-use Rattle.std.proofs.Common.{rules}
+use Rattle.std.proofs.Common.{rules, arith}
 use Rattle.waitq.proofs.wait_state.Goals as goal
 
 pub get8-kind-requires : goal.get8-kind-requires

@@ -1,6 +1,6 @@
 -- `waitq::write_exit_message` meets its contract: by its law of specs/WriteCode.antt.
-use mathlib.Core.Path.{refl}
-use native.Mathlib.Omega.{arith}
+use Rattle.std.specs.Prelude.{refl}
+use Rattle.std.proofs.Common.{arith}
 use Rattle.waitq.specs.WriteCode.{part_end, message_in_lem}
 use Rattle.waitq.proofs.write_exit_message.Goals as goal
 

@@ -1,5 +1,5 @@
 -- `walks::count_owned` meets its contract: the cells below c were counted. The measure is how many are left.
-use Prim.Native.Nat.{◌-◌}
+use Rattle.std.specs.Prelude.{◌-◌}
 use Rattle.state.specs.Abs.{is_set}
 use Rattle.state.specs.Fields as fields
 use Rattle.rules.specs.Code.{mem_in}

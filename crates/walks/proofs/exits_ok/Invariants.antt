@@ -1,5 +1,5 @@
 -- `walks::exits_ok` meets its contract: k cells were met. The measure is how many more the record says there are.
-use Prim.Native.Nat.{◌-◌}
+use Rattle.std.specs.Prelude.{◌-◌}
 use Rattle.state.specs.Fields as fields
 use Rattle.rules.specs.Code.{mem_in}
 use Rattle.walks.specs.Exits.{ExitWalking, exit-start, exit-more, exit-long, exit-other, exit-end, exit-short}

@@ -1,5 +1,5 @@
 -- `walks::if_one` meets its contract.
-use borrow.Author.Tests.{eq-eqb, ne_eqb}
+use Rattle.std.proofs.Common.{eq-eqb, ne_eqb}
 use Rattle.std.proofs.Common.{rules}
 use Rattle.walks.proofs.if_one.Goals as goal
 

@@ -1,5 +1,5 @@
 -- `walks::timers_ok` meets its contract: the timers below t are in order. The measure is how many are left.
-use Prim.Native.Nat.{◌+◌, ◌-◌}
+use Rattle.std.specs.Prelude.{◌+◌, ◌-◌}
 use Rattle.state.specs.Places.{sizes_in}
 use Rattle.rules.specs.Code.{mem_in}
 use Rattle.rules.specs.Facts.{TimerOk}

@@ -1,5 +1,5 @@
 -- `clock::Duration::valid` meets its contract: the test is the definition.
-use mathlib.Core.Path.{refl}
+use Rattle.std.specs.Prelude.{refl}
 use Rattle.clock.specs.Counts.{valid_duration}
 use Rattle.clock.proofs.Duration.valid.Goals as goal
 
