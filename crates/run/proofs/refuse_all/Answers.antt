@@ -15,7 +15,7 @@ returns-then-end-at c = record { ran = λ s w. ran-ended (c.loop-answers.invaria
 
 pub overflow_add-n : goal.overflow_add-n
 overflow_add-n c = 
-    omega (arith, c.loop-answers.invariant.0, c.loop-answers-test.true, c.well_formed_lem)
+    omega (arith, c.loop-answers.invariant.0, c.loop-answers-test.true, c.well_formed)
 
 pub loop-answers-preserved : goal.loop-answers-preserved
 loop-answers-preserved c = (

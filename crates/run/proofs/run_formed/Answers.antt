@@ -26,12 +26,12 @@ slice_bounds-run_one-end c = (end-some c.loop-answers.invariant.2.steps c.end_of
 
 pub overflow_add-n : goal.overflow_add-n
 overflow_add-n c = 
-    omega (arith, c.loop-answers.invariant.2, c.loop-answers-test.true, c.well_formed_lem)
+    omega (arith, c.loop-answers.invariant.2, c.loop-answers-test.true, c.well_formed)
 
 pub loop-answers-preserved : goal.loop-answers-preserved
 loop-answers-preserved c = (
       c.run_one.ensures.well,
-      c.run_one.auto.0 ∙ c.loop-answers.invariant.1,
+      c.run_one.auto.s ∙ c.loop-answers.invariant.1,
       reached_more c.loop-answers.invariant.2 (end-some c.loop-answers.invariant.2.steps c.end_of-end.ensures c.if-end-at.false) c.loop-answers-test.true (omega arith),
       so_far_more c.loop-answers.invariant.3 c.loop-answers.invariant.2 (end-some c.loop-answers.invariant.2.steps c.end_of-end.ensures c.if-end-at.false) c.loop-answers-test.true c.run_one.ensures.ran refl,
     )
