@@ -1,0 +1,6 @@
+-- `replay::read_full` meets its contract: what was read is within the buffer. The measure is what is left of it.
+use Rattle.std.specs.Prelude.{◌≤◌, ◌-◌}
+use Rattle.replay.proofs.read_full.Given as goal
+
+abbrev pub decreases-loop-length : goal.decreases-loop-length
+decreases-loop-length g l = length l.buf - l.length
