@@ -1,5 +1,5 @@
 -- A list that is linked both ways: g i is the link of i to the next, h to the first; k i is the link to the one before, t to the last.
-use Rattle.std.specs.Prelude.{if◌then◌else◌, ◌≡◌, refl, Bool, true, false, List, [], ◌∷◌, ◌++◌, reverse, ◌⊎◌, ℕ, zero, suc, ◌<◌, eqb}
+use Rattle.std.specs.Prelude.{if◌then◌else◌, ◌≡◌, refl, Bool, true, false, List, [], ◌∷◌, ◌++◌, reverse, ℕ, zero, suc, ◌<◌, eqb}
 use Rattle.std.proofs.Common.{sym, subst, ◌∙◌, append_assoc, ⊎_elim, eqb-true}
 use Rattle.std.proofs.Math.Path.{fun_ext}
 use Rattle.std.proofs.lemmas.List.{reverse-append}

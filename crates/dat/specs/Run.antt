@@ -1,13 +1,12 @@
 -- The run queue: what `ready` and `next_ready` ask and ensure.
-use Rattle.std.specs.Prelude.{◌≡◌, refl, List, [], ◌∷◌, ◌++◌, ℕ, zero, suc, ◌+◌, ◌-◌, ◌≤◌, ◌<◌}
+use Rattle.std.specs.Prelude.{◌≡◌, refl, List, [], ◌∷◌, ◌++◌, ℕ, zero, suc, ◌-◌, ◌≤◌, ◌<◌}
 use Rattle.std.proofs.Common.{sym, ap, ap₂, subst, ◌∙◌, arith}
-use Rattle.machine.specs.Machine as machine
 use Rattle.machine.specs.Update.{with_run}
 use Rattle.machine.specs.Places.{ready}
 use Rattle.layout.specs.Table.{slot}
 use Rattle.layout.specs.Memory.{Memory, alter, set_twice}
 use Rattle.layout.specs.Writes.{Write, to, updates}
-use Rattle.chain.specs.Links.{push_first, pop_last, first_link, rest}
+use Rattle.chain.specs.Links.{push_first, pop_last, first_link}
 use Rattle.state.specs.Fields as fields
 use Rattle.state.specs.Abs.{run_list}
 use Rattle.state.specs.Places.{sizes_in, mem_in, PutIn, Wrote, wrote_join}

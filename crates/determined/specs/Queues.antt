@@ -1,5 +1,5 @@
 -- The queues of processes and of timers in two memories of one machine.
-use Rattle.std.specs.Prelude.{◌≡◌, refl, Bool, true, false, ◌&&◌, map, ◌⊎◌, ℕ, ◌≤◌, ◌<◌, eqb}
+use Rattle.std.specs.Prelude.{◌≡◌, refl, Bool, true, false, ◌&&◌, map, ℕ, ◌≤◌, ◌<◌, eqb}
 use Rattle.std.proofs.Common.{sym, ap₂, ◌∙◌, ⊎_elim, arith, eqb-true}
 use Rattle.std.proofs.Math.Path.{ap}
 use Rattle.machine.specs.Basics.{count}

@@ -2,9 +2,6 @@
 use Rattle.std.specs.Prelude.{◌≡◌, Bool, true, false, List, ◌↔◌, ℕ}
 use Rattle.std.proofs.Common.{sym, subst}
 use Rattle.machine.specs.Machine.{Sizes}
-use Rattle.machine.specs.Good.{SizesInRange}
-use Rattle.layout.specs.Memory.{mem}
-use Rattle.layout.specs.Writes.{State}
 use Rattle.state.specs.Fields as fields
 use Rattle.state.specs.Abs.{sizes_of, memory_of, abs}
 use Rattle.state.specs.Places.{sizes_in}

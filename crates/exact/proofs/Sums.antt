@@ -1,11 +1,8 @@
 -- Sums and counts over the numbers below n, and lists of distinct numbers that meet everyone because they are as many.
-use Rattle.std.specs.Prelude.{◌≡◌, refl, Bool, true, false, List, [], ◌∷◌, ℕ, zero, suc, ◌+◌, ◌≤◌, ◌<◌, eqb, ltb, length}
-use Rattle.std.proofs.Common.{sym, ap, subst, ◌∙◌, arith, not-suc-le-zero, eqb-true, eq-eqb, ne_eqb, ltb-true, ltb-false}
-use Rattle.std.proofs.lemmas.Bool.{eqb-false}
+use Rattle.std.specs.Prelude.{◌≡◌, refl, Bool, true, false, List, ℕ, ◌≤◌, ◌<◌, ltb, length}
+use Rattle.std.proofs.Common.{sym, ap, ◌∙◌, arith, ltb-true, ltb-false}
 use Rattle.machine.specs.Basics.{count}
-use Rattle.machine.specs.Good.{Each}
 use Rattle.lists.specs.Lists.{bit, each-count}
-use Rattle.chain.specs.Lists.{Below, Absent, Distinct}
 use Rattle.rules.specs.Facts.{count_below, sum_below}
 use Rattle.exact.specs.Sums.{sum-tight, sum-zero, sum_one, count-sum, count_past, count-passing, Family, family-length}
 

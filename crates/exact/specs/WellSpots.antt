@@ -5,7 +5,7 @@ use Rattle.std.proofs.Common.{subst, ◌∙◌, arith, eq-eqb}
 use Rattle.std.proofs.Math.Bool.{true}
 use Rattle.std.proofs.Math.Dec.{eqb}
 use Rattle.machine.specs.Basics.{count}
-use Rattle.machine.specs.Machine.{Sizes, Lock, in_qlock, process, sleeper}
+use Rattle.machine.specs.Machine.{Sizes, Lock, in_qlock, process}
 use Rattle.machine.specs.Good.{Each, running_in, SleepsOn, Good}
 use Rattle.layout.specs.Memory.{Memory}
 use Rattle.state.specs.Fields as fields

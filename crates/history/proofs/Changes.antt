@@ -13,7 +13,7 @@ use Rattle.machine.specs.Exits.{free_record}
 use Rattle.machine.specs.Table.{one_of, refusal, open_table}
 use Rattle.machine.specs.Perform.{current, made, start_of, rfork_of}
 use Rattle.history.proofs.Sound.{Sound}
-use Rattle.history.specs.History.{Says, silent, says_of, at, open_history}
+use Rattle.history.specs.History.{Says, silent, says_of, open_history}
 use Rattle.history.proofs.Lists.{get_d_set, get_d_set-kept}
 use Rattle.history.proofs.View.{View, view, made_v, nobody, Change, wakes, makes}
 use Rattle.history.proofs.Facts.{lives_of, none_of, places-at_most, up-count, free_record_lem, not_met}

@@ -14,7 +14,7 @@ use Rattle.machine.specs.Table.{on, refusal, open_table}
 use Rattle.machine.specs.Perform.{current, wakeup_of, qlock_of, canqlock_of, qunlock_of, cond_of, clock_of, tadd_of, tdel_of, intr_of, due_of, exit_of, wait_of, perform}
 use Rattle.machine.specs.StepOf.{left_by, refusing, step_of, outcome_of}
 use Rattle.history.proofs.Sound.{Sound}
-use Rattle.history.specs.History.{Input, gives, silent, says_of, at, open_history}
+use Rattle.history.specs.History.{Input, gives, silent, says_of, open_history}
 use Rattle.history.proofs.Lists.{get_d_set, get_d_set-kept, and_true}
 use Rattle.history.proofs.View.{View, view, waits_v, queues_v, gone_v, Wakes, nobody, Change, wakes, waits, queues, leaves, spends}
 use Rattle.history.proofs.Facts.{has_record, not_met}

@@ -13,7 +13,7 @@ use Rattle.machine.specs.Table.{taken, refusal, open_table}
 use Rattle.machine.specs.Perform.{current, name_of, yield_of, sleep_of, tsleep_of}
 use Rattle.machine.specs.Good.{SleepsOn}
 use Rattle.history.proofs.Sound.{Sound}
-use Rattle.history.specs.History.{on_rendez, Says, at, open_history}
+use Rattle.history.specs.History.{on_rendez, Says, open_history}
 use Rattle.history.proofs.Lists.{get_d_set, get_d_set-kept, and_left, and_true}
 use Rattle.history.proofs.View.{View, view, sleeps_v, nobody, Change, wakes, gives_way, goes_asleep}
 use Rattle.history.proofs.Facts.{has_record, not_met}

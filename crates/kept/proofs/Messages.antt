@@ -1,8 +1,8 @@
 -- An exit message is at most 127 bytes.
-use Rattle.std.specs.Prelude.{if◌then◌else◌, ◌≡◌, refl, Bool, true, false, List, [], ◌∷◌, ◌++◌, ℕ, zero, suc, ◌+◌, ◌/◌, ◌%◌, ◌≤◌, eqb, leb, ltb, length, get_or, take}
-use Rattle.std.proofs.Common.{arith, leb-true, ltb-true, ltb-false, length-take}
+use Rattle.std.specs.Prelude.{if◌then◌else◌, Bool, List, [], ◌++◌, ℕ}
+use Rattle.std.proofs.Common.{arith}
 use Rattle.machine.specs.Basics.{is_empty, ascii}
-use Rattle.machine.specs.Message.{digits, decimal, up_to_zero, continuation, move_back, cut, message}
+use Rattle.machine.specs.Message.{decimal, up_to_zero, cut, message}
 use Rattle.machine.specs.Good.{Each, Byte}
 use Rattle.lists.specs.Lists.{either, each_append}
 use Rattle.kept.specs.Messages.{digit-bytes, name-bytes, cut-bytes}

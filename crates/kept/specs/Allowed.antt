@@ -6,7 +6,7 @@ use Rattle.std.proofs.lemmas.Bool.{eqb-false, not-false}
 use Rattle.machine.specs.Basics.{is_some, is_none, elem}
 use Rattle.machine.specs.Machine.{Machine, condition}
 use Rattle.machine.specs.Exits.{free_record}
-use Rattle.machine.specs.Step.{Step, Body, rfork, name, yield, sleep, tsleep, qlock, exit, wait}
+use Rattle.machine.specs.Step.{Step, Body}
 use Rattle.machine.specs.Table.{order, holds, first_of, refusal, table, in_range, one_of, on, held_lock, bad_now, makes, open_table}
 
 -- Tests that are joined.

@@ -5,7 +5,7 @@ use Rattle.std.proofs.Common.{sym, ap, arith, not-suc-le-zero}
 use Rattle.std.proofs.Math.Option.{Option, none, some}
 use Rattle.clock.specs.Counts.{counts_of}
 use Rattle.machine.specs.Basics.{count, count_that, concat_map, numbers_from, present}
-use Rattle.machine.specs.Machine.{Sizes, nothing, in_qlock, in_wait, Exit, Process, Lock, Setting, Queued, Machine, free, process, sleeper, living, asleep_on, open_machine}
+use Rattle.machine.specs.Machine.{Sizes, nothing, in_qlock, in_wait, Exit, Process, Lock, Setting, Queued, Machine, free, process, living, asleep_on, open_machine}
 use Rattle.machine.specs.Exits.{cells_used}
 use Rattle.machine.specs.Timers.{own_timer}
 use Rattle.machine.specs.Good.{Good, Each, SizesInRange, ProcessInRange, SettingInRange, QueuedInRange, SleepsOn, ByDeadline, IsTsleep, running_in, places, children}

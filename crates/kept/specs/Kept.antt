@@ -1,23 +1,16 @@
 -- Every step keeps a machine well formed, done or refused.
-use Rattle.std.specs.Prelude.{if◌then◌else◌, ◌≡◌, refl, Bool, true, false, ◌&&◌, [], ℕ, suc, eqb, ltb}
+use Rattle.std.specs.Prelude.{if◌then◌else◌, ◌≡◌, refl, Bool, true, false, ◌&&◌, [], ℕ, suc, eqb}
 use Rattle.std.proofs.Common.{ap, subst, arith, eqb-true}
-use Rattle.std.proofs.Math.Option.{Option, none, some}
+use Rattle.std.proofs.Math.Option.{none, some}
 use Rattle.machine.specs.Machine.{Machine}
 use Rattle.machine.specs.Update.{with_next_pid}
-use Rattle.machine.specs.Step.{Step, Body, start, rfork, name, sched, yield, sleep, tsleep, wakeup, qlock, canqlock, qunlock, cond, clock, tadd, tdel, intr, due, exit, wait, open_step}
+use Rattle.machine.specs.Step.{Body, start, rfork, name, sched, yield, sleep, tsleep, wakeup, qlock, canqlock, qunlock, cond, clock, tadd, tdel, intr, due, exit, wait, open_step}
 use Rattle.machine.specs.Flags.{has, RFPROC}
 use Rattle.machine.specs.Table.{refusal, on, open_table}
-use Rattle.machine.specs.Perform.{perform}
-use Rattle.machine.specs.StepOf.{left_by, refusing, step_of, outcome_of}
-use Rattle.machine.specs.Good.{Good}
-use Rattle.lists.specs.Lists.{either}
-use Rattle.kept.specs.Fine.{Fine, fine, good}
+use Rattle.machine.specs.StepOf.{left_by}
+use Rattle.kept.specs.Fine.{Fine}
 use Rattle.kept.specs.FineLaws.{fine-next}
 use Rattle.kept.specs.Allowed.{and_left, and_right, step, before, earlier, caused, pid-left}
-use Rattle.kept.specs.Simple.{kept-cond, kept-due, kept-tdel, kept-wakeup, kept-qunlock, kept-canqlock, kept-yield, kept-name, kept-clock, kept-tadd}
-use Rattle.kept.specs.Sleeping.{kept-qlock, kept-sleep, kept-tsleep, kept-wait}
-use Rattle.kept.specs.Sched.{kept-sched}
-use Rattle.kept.specs.Making.{kept-start, kept-rfork}
 
 -- The body for which 11 raises the next pid is an rfork whose page copy fails.
 pub copy_fails : (b : Body) → on 2 "rfork" (λ F M. eqb M 3) b ≡ true → (F : ℕ) × (b ≡ rfork F 3)

@@ -2,7 +2,7 @@
 -- meets it, computed; for 16, which no list is long enough to meet, a machine that keeps the rules and meets it.
 use Rattle.std.specs.Prelude.{◌≡◌, refl, true, false, List, [], ◌∷◌, ℕ, ◌-◌, ◌^◌, ◌≤◌}
 use Rattle.std.proofs.Common.{arith}
-use Rattle.machine.specs.Machine.{Machine, Sizes, fresh, sleeper, open_machine}
+use Rattle.machine.specs.Machine.{Machine, Sizes, fresh, open_machine}
 use Rattle.machine.specs.Update.{with_next_pid}
 use Rattle.machine.specs.Step.{Step, Body, start, rfork, sched, yield, sleep, wakeup, qunlock, clock, tadd, exit, wait}
 use Rattle.machine.specs.Outcome.{Reply, refused}

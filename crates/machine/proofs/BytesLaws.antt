@@ -4,7 +4,7 @@ use Rattle.std.proofs.Common.{sym, ap, ap₂, ◌∙◌, arith, add-suc, eq-eqb,
 use Rattle.std.proofs.Math.Option.{some}
 use Rattle.memory.specs.Le.{le}
 use Rattle.machine.specs.Basics.{concat_map}
-use Rattle.machine.specs.Step.{Step, Body, Takes, takes_numbers, takes_bytes, start, rfork, name, sched, yield, sleep, tsleep, wakeup, qlock, canqlock, qunlock, cond, clock, tadd, tdel, intr, due, exit, wait, Fields, numbers, bytes, kinds, fill, word_of, fields_of}
+use Rattle.machine.specs.Step.{Step, Body, Takes, takes_numbers, takes_bytes, start, rfork, name, sched, yield, sleep, tsleep, wakeup, qlock, canqlock, qunlock, cond, clock, tadd, tdel, intr, due, exit, wait, kinds, fill, word_of, fields_of}
 use Rattle.machine.specs.Encodable.{AllBelow, Encodable}
 use Rattle.machine.specs.Bytes.{bytes_of, kind_number, encode_fields, encode, numbers_at, decode_form, decode_body, marking, decode}
 

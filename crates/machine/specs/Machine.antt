@@ -1,5 +1,5 @@
 -- The machine: what a state holds, as numbers and lists. Processes are named by the numbers of their records.
-use Rattle.std.specs.Prelude.{Bool, false, not, List, [], ◌++◌, ℕ, ◌+◌, eqb, length, get_or, set, replicate}
+use Rattle.std.specs.Prelude.{Bool, false, not, List, [], ◌++◌, ℕ, eqb, length, get_or, set, replicate}
 use Rattle.std.proofs.Math.Option.{Option, none}
 use Rattle.clock.specs.Counts.{counts_of}
 use Rattle.machine.specs.Basics.{concat_map, present, numbers_from}

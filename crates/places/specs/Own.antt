@@ -4,7 +4,7 @@ use Rattle.std.proofs.Math.Path.{refl, ap, subst}
 use Rattle.std.proofs.Common.{sym, ◌∙◌, arith}
 use Rattle.std.proofs.Math.Option.{none, some}
 use Rattle.lists.specs.Lists.{bit}
-use Rattle.machine.specs.Machine.{Sizes, Machine, Process, free, process, asleep, asleep_on}
+use Rattle.machine.specs.Machine.{Sizes, Machine, Process, process, asleep, asleep_on}
 use Rattle.machine.specs.Good.{Each}
 use Rattle.machine.specs.Update.{with_up, with_process, with_resume}
 use Rattle.layout.specs.Memory.{Memory, alter, set_field}

@@ -1,10 +1,10 @@
 -- The own waitr of a process in the memory of a state: it goes asleep there, and is taken off.
-use Rattle.std.specs.Prelude.{◌≡◌, refl, Bool, ◌⊎◌, eqb, ℕ, suc, ◌+◌, ◌<◌}
+use Rattle.std.specs.Prelude.{◌≡◌, refl, Bool, eqb, ℕ, suc, ◌+◌, ◌<◌}
 use Rattle.std.proofs.Common.{sym, ◌∙◌, ⊎_elim, arith, eq-eqb, eqb-true}
 use Rattle.std.proofs.Math.Path.{ap}
 use Rattle.std.proofs.Math.Bool.{true, false}
 use Rattle.lists.specs.Lists.{bit}
-use Rattle.machine.specs.Machine.{Sizes, Process, free, process, asleep}
+use Rattle.machine.specs.Machine.{Sizes, Process, process, asleep}
 use Rattle.machine.specs.Update.{with_process, with_on_waitr}
 use Rattle.layout.specs.Memory.{Memory, alter, set_field}
 use Rattle.chain.specs.Lists.{Absent, all_map, all_both}

@@ -23,7 +23,6 @@ use Rattle.holds.specs.Leftover.{alive-kin}
 use Rattle.holds.specs.Touched.{Touched, spares-after}
 use Rattle.clockwork.specs.Stores.{Became}
 use Rattle.clockwork.specs.Clock.{now_stores}
-use Rattle.outcome.specs.declared.Reply as code
 use Rattle.outcome.specs.declared.Reply.TheVariants.{Fired, Refused}
 use Rattle.outcome.specs.Means.{means, told}
 use Rattle.outcome.specs.Took.{Took}

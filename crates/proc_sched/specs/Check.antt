@@ -3,7 +3,7 @@ use Rattle.std.specs.Prelude.{if◌then◌else◌, ◌≡◌, refl, Bool, true, 
 use Rattle.std.proofs.Common.{sym, ap, subst, ◌∙◌, arith}
 use Rattle.std.proofs.lemmas.Bool.{not-true, not-false}
 use Rattle.machine.specs.Machine.{Machine, pid_of, condition}
-use Rattle.machine.specs.Outcome.{Answer, Outcome, answer}
+use Rattle.machine.specs.Outcome.{Answer, Outcome}
 use Rattle.machine.specs.Timers.{delete, is_queued, own_timer}
 use Rattle.machine.specs.Perform.{runs, checks_again, tsleep_checks}
 use Rattle.layout.specs.Memory.{Memory}

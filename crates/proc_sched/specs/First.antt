@@ -9,7 +9,7 @@ use Rattle.machine.specs.Machine.{process}
 use Rattle.machine.specs.Good.{ResumeInRange, Each}
 use Rattle.machine.specs.Step.{sched}
 use Rattle.machine.specs.Table.{head_taken, taken_again}
-use Rattle.machine.specs.Outcome.{Outcome, answer}
+use Rattle.machine.specs.Outcome.{Outcome}
 use Rattle.machine.specs.Perform.{perform, sched_of}
 use Rattle.machine.specs.StepOf.{left_by}
 use Rattle.chain.specs.Links.{first_link, chain_first}
@@ -27,7 +27,7 @@ use Rattle.holds.specs.Did.{machine_in}
 use Rattle.places.specs.Nowhere.{state-used}
 use Rattle.outcome.specs.declared.Reply as code
 use Rattle.outcome.specs.declared.Reply.TheVariants.{Refused}
-use Rattle.outcome.specs.Means.{means, told, status_of}
+use Rattle.outcome.specs.Means.{told, status_of}
 use Rattle.outcome.specs.Stepped.{left_bytes}
 use Rattle.outcome.specs.Laws.{stepped-done, stepped-refused}
 use Rattle.outcome.specs.RefusalsRun.{refused-sched_5, allowed-sched, head_first}

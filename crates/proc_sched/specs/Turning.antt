@@ -8,7 +8,6 @@ use Rattle.machine.specs.Timers.{is_queued, own_timer}
 use Rattle.machine.specs.Update.{with_run, with_process, with_quantum_end}
 use Rattle.machine.specs.Outcome.{Answer, Outcome, answered}
 use Rattle.machine.specs.Perform.{resumes, sched_of}
-use Rattle.record.specs.declared.Resume.{Resume}
 use Rattle.clockwork.specs.Quantum.{dispatched}
 
 -- The machine once the first in line is off the queue and has its quantum.

@@ -2,7 +2,6 @@
 use Rattle.std.specs.Prelude.{◌≡◌, refl, Bool, true, false, ◌&&◌, List, [], ℕ, ◌+◌, ◌≤◌, ◌<◌, eqb}
 use Rattle.std.proofs.Common.{ap, subst, ◌∙◌, Fits, lt-ltb, le-leb}
 use Rattle.std.proofs.Math.Bool.{and-false}
-use Rattle.std.proofs.Math.Option.{some}
 use Rattle.std.specs.Int.{w64}
 use Rattle.clock.specs.declared.Duration.{Duration}
 use Rattle.machine.specs.Machine.{Machine}

@@ -14,7 +14,6 @@ use Rattle.machine.specs.Outcome.{Outcome}
 use Rattle.machine.specs.Timers.{own_timer}
 use Rattle.machine.specs.Perform.{perform, open_perform}
 use Rattle.machine.specs.StepOf.{left_by}
-use Rattle.state.specs.Fields as fields
 use Rattle.state.specs.Abs.{link_to, machine_of}
 use Rattle.state.specs.declared.Sizes.{Sizes}
 use Rattle.holds.specs.Did.{machine_in}

@@ -23,7 +23,7 @@ use Rattle.waitq.specs.Stored.{CellThere}
 use Rattle.waitq.specs.PopCode.{PopAsks, pop-some, pop-cell, pop-index}
 use Rattle.state.specs.WellFormed.{Used}
 use Rattle.state.specs.declared.Sizes.{Sizes}
-use Rattle.exact.specs.Bounds.{at_most, inside}
+use Rattle.exact.specs.Bounds.{at_most}
 use Rattle.holds.specs.Holds.{Holds}
 use Rattle.holds.specs.Whole.{holds-bounds}
 use Rattle.holds.specs.Did.{machine_in}

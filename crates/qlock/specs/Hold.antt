@@ -1,5 +1,5 @@
 -- A lock held, handed over or freed: what `canqlock`, `qunlock` and `give_up` ask and ensure.
-use Rattle.std.specs.Prelude.{◌≡◌, refl, Bool, true, false, not, List, [], ◌∷◌, ◌++◌, ℕ, suc, ◌+◌, ◌-◌, ◌≤◌, ◌<◌}
+use Rattle.std.specs.Prelude.{◌≡◌, refl, Bool, true, false, not, List, [], ◌∷◌, ◌++◌, ℕ, suc, ◌-◌, ◌≤◌, ◌<◌}
 use Rattle.std.proofs.Common.{sym, ap, subst, ◌∙◌, arith, ne_eqb}
 use Rattle.machine.specs.Machine.{Machine, Lock, lock, pid_of}
 use Rattle.machine.specs.Update.{with_lock}
@@ -15,7 +15,7 @@ use Rattle.exact.specs.Parts.{lock_of, pid_of_lem}
 use Rattle.holds.specs.Holds.{Holds}
 use Rattle.holds.specs.Whole.{holds-bounds}
 use Rattle.holds.specs.Use.{used_by, EachInUse, before, same_use}
-use Rattle.holds.specs.Did.{Did, did, did_join, did_as, machine_in, same, more}
+use Rattle.holds.specs.Did.{Did, did, did_join, did_as, machine_in, same}
 use Rattle.holds.specs.Touched.{Touched, touched-did}
 use Rattle.places.specs.Others.{others, keeps_with}
 use Rattle.places.specs.Machines.{lock_with}

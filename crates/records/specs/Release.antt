@@ -13,7 +13,6 @@ use Rattle.chain.specs.Links.{alter-same}
 use Rattle.state.specs.Fields as fields
 use Rattle.state.specs.Abs.{machine_of}
 use Rattle.state.specs.WellFormed.{Ages, Index}
-use Rattle.state.specs.declared.Sizes.{Sizes}
 use Rattle.exact.specs.Bounds.{InBounds, inside}
 use Rattle.exact.specs.Parts.{free-at, used_of}
 use Rattle.holds.specs.Holds.{Placed, Keeps}

@@ -1,5 +1,5 @@
 -- What has a link, an object and a condition, and what has none.
-use Rattle.std.specs.Prelude.{◌≡◌, true, false, ◌⊎◌, ℕ}
+use Rattle.std.specs.Prelude.{◌≡◌, true, ◌⊎◌, ℕ}
 use Rattle.std.proofs.Common.{sym, ⊎_elim, ne_eqb}
 use Rattle.std.proofs.lemmas.Bool.{false≢true}
 use Rattle.state.specs.WellFormed.{is_linked, Blank, NoLink}

@@ -1,6 +1,6 @@
 -- `bounds::words_within` meets its contract: at each turn the records below i are within.
 use Rattle.std.specs.Prelude.{◌-◌}
-use Rattle.bounds.specs.Column.{column, Testing, test_start, test_more, test_no, test_yes}
+use Rattle.bounds.specs.Column.{column, Testing}
 use Rattle.bounds.proofs.words_within.Given as goal
 
 abbrev pub invariant-loop-i : goal.invariant-loop-i

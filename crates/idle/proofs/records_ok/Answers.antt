@@ -1,8 +1,6 @@
 -- `idle::records_ok` meets its contract: the records below i have nothing where they are free. The measure is how many are left.
-use Rattle.std.specs.Prelude.{refl, ◌-◌}
-use Rattle.rules.specs.Code.{mem_in}
-use Rattle.rules.specs.Loop.{Passing, pass_start, pass_more, pass_end, passed, failed}
-use Rattle.idle.specs.Idle.{RecordIdle}
+use Rattle.std.specs.Prelude.{refl}
+use Rattle.rules.specs.Loop.{pass_start, pass_more, pass_end, passed, failed}
 use Rattle.std.proofs.lemmas.Bool.{not_from_true}
 use Rattle.std.proofs.lemmas.Bool.{not_from_false}
 use Rattle.idle.proofs.records_ok.Goals as goal

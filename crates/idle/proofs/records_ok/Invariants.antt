@@ -1,7 +1,7 @@
 -- `idle::records_ok` meets its contract: the records below i have nothing where they are free. The measure is how many are left.
-use Rattle.std.specs.Prelude.{refl, ◌-◌}
+use Rattle.std.specs.Prelude.{◌-◌}
 use Rattle.rules.specs.Code.{mem_in}
-use Rattle.rules.specs.Loop.{Passing, pass_start, pass_more, pass_end, passed, failed}
+use Rattle.rules.specs.Loop.{Passing}
 use Rattle.idle.specs.Idle.{RecordIdle}
 use Rattle.idle.proofs.records_ok.Given as goal
 

@@ -1,8 +1,6 @@
 -- `idle::timers_ok` meets its contract: the timers below t have no link where they are off the queue. The measure is how many are left.
-use Rattle.std.specs.Prelude.{refl, ◌+◌, ◌-◌}
-use Rattle.rules.specs.Code.{mem_in}
-use Rattle.rules.specs.Loop.{Passing, pass_start, pass_more, pass_end, passed, failed}
-use Rattle.idle.specs.Idle.{TimerIdle}
+use Rattle.std.specs.Prelude.{refl}
+use Rattle.rules.specs.Loop.{pass_start, pass_more, pass_end, passed, failed}
 use Rattle.std.proofs.lemmas.Bool.{not_from_true}
 use Rattle.std.proofs.lemmas.Bool.{not_from_false}
 use Rattle.idle.proofs.timers_ok.Goals as goal

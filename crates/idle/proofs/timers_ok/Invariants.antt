@@ -1,7 +1,7 @@
 -- `idle::timers_ok` meets its contract: the timers below t have no link where they are off the queue. The measure is how many are left.
-use Rattle.std.specs.Prelude.{refl, ◌+◌, ◌-◌}
+use Rattle.std.specs.Prelude.{◌+◌, ◌-◌}
 use Rattle.rules.specs.Code.{mem_in}
-use Rattle.rules.specs.Loop.{Passing, pass_start, pass_more, pass_end, passed, failed}
+use Rattle.rules.specs.Loop.{Passing}
 use Rattle.idle.specs.Idle.{TimerIdle}
 use Rattle.idle.proofs.timers_ok.Given as goal
 

@@ -1,6 +1,6 @@
 -- `index::cell_word` meets its contract: the bits from b up have made the word.
 use Rattle.std.specs.Prelude.{◌+◌, ◌*◌}
-use Rattle.index.specs.Gather.{Gathering, used_bit, gather_start, gather_small, gather_more, in_use_lem}
+use Rattle.index.specs.Gather.{Gathering, used_bit}
 use Rattle.rules.specs.Code.{mem_in}
 use Rattle.state.specs.Fields.{owner}
 use Rattle.index.proofs.cell_word.Given as goal

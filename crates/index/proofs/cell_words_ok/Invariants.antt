@@ -1,10 +1,9 @@
 -- `index::cell_words_ok` meets its contract: the words below w are as computed.
 use Rattle.std.specs.Prelude.{◌-◌}
-use Rattle.index.specs.Compare.{Comparing, compare-start, compare-more, compare-no, compare-rest}
-use Rattle.index.specs.Gather.{unused}
+use Rattle.index.specs.Compare.{Comparing}
 use Rattle.index.specs.Words.{cell_word}
 use Rattle.rules.specs.Code.{mem_in}
-use Rattle.state.specs.Fields.{owner, used_cells}
+use Rattle.state.specs.Fields.{used_cells}
 use Rattle.index.proofs.cell_words_ok.Given as goal
 
 abbrev pub invariant-loop-w : goal.invariant-loop-w

@@ -1,6 +1,5 @@
 -- `index::full_word` meets its contract: the bits from b up have made the word.
-use Rattle.index.specs.Gather.{Gathering, gather_start, gather_small, gather_more}
-use Rattle.index.specs.Words.{full_bit}
+use Rattle.index.specs.Gather.{gather_start, gather_small, gather_more}
 use Rattle.index.specs.Full.{full-end}
 use Rattle.std.proofs.Common.{rules}
 use Rattle.index.proofs.full_word.Goals as goal

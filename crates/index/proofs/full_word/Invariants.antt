@@ -1,7 +1,6 @@
 -- `index::full_word` meets its contract: the bits from b up have made the word.
-use Rattle.index.specs.Gather.{Gathering, gather_start, gather_small, gather_more}
+use Rattle.index.specs.Gather.{Gathering}
 use Rattle.index.specs.Words.{full_bit}
-use Rattle.index.specs.Full.{full-end}
 use Rattle.index.proofs.full_word.Given as goal
 
 abbrev pub invariant-loop-b : goal.invariant-loop-b

@@ -1,10 +1,6 @@
 -- `index::full_words_ok` meets its contract: the words below w are as computed.
-use Rattle.std.specs.Prelude.{◌-◌, ◌*◌}
-use Rattle.index.specs.Compare.{Comparing, compare-start, compare-more, compare-no, compare-yes}
-use Rattle.index.specs.Words.{full_word}
+use Rattle.index.specs.Compare.{compare-start, compare-more, compare-no, compare-yes}
 use Rattle.index.specs.Full.{full_cells_lem}
-use Rattle.rules.specs.Code.{mem_in}
-use Rattle.state.specs.Fields.{full_cell_words}
 use Rattle.std.proofs.Common.{rules}
 use Rattle.index.proofs.full_words_ok.Goals as goal
 

@@ -1,10 +1,8 @@
 -- `index::record_words_ok` meets its contract: the words below w are as computed.
-use Rattle.std.specs.Prelude.{◌-◌}
-use Rattle.index.specs.Compare.{Comparing, compare-start, compare-more, compare-no, compare-rest}
+use Rattle.index.specs.Compare.{compare-start, compare-more, compare-no, compare-rest}
 use Rattle.index.specs.Gather.{unused}
-use Rattle.index.specs.Words.{record_word}
 use Rattle.rules.specs.Code.{mem_in}
-use Rattle.state.specs.Fields.{pid, used_records}
+use Rattle.state.specs.Fields.{pid}
 use Rattle.std.proofs.Common.{rules}
 use Rattle.index.proofs.record_words_ok.Goals as goal
 

@@ -1,8 +1,6 @@
 -- `index::zeros_from` meets its contract: the words below w are 0.
-use Rattle.std.specs.Prelude.{refl, ◌-◌}
-use Rattle.layout.specs.Table.{slot}
-use Rattle.state.specs.Places.{cell_in}
-use Rattle.index.specs.Compare.{Comparing, compare-start, compare-more, compare-no, compare-yes}
+use Rattle.std.specs.Prelude.{refl}
+use Rattle.index.specs.Compare.{compare-start, compare-more, compare-no, compare-yes}
 use Rattle.index.proofs.zeros_from.Goals as goal
 
 pub loop-w-init : goal.loop-w-init

@@ -1,8 +1,8 @@
 -- `index::zeros_from` meets its contract: the words below w are 0.
-use Rattle.std.specs.Prelude.{refl, ◌-◌}
+use Rattle.std.specs.Prelude.{◌-◌}
 use Rattle.layout.specs.Table.{slot}
 use Rattle.state.specs.Places.{cell_in}
-use Rattle.index.specs.Compare.{Comparing, compare-start, compare-more, compare-no, compare-yes}
+use Rattle.index.specs.Compare.{Comparing}
 use Rattle.index.proofs.zeros_from.Given as goal
 
 abbrev pub invariant-loop-w : goal.invariant-loop-w

@@ -1,10 +1,6 @@
 -- `kin::children_ok` meets its contract: the records below i pass.
-use Rattle.std.specs.Prelude.{◌-◌}
-use Rattle.state.specs.Places.{sizes_in}
-use Rattle.rules.specs.Code.{mem_in}
-use Rattle.rules.specs.Loop.{Passing, pass_start}
+use Rattle.rules.specs.Loop.{pass_start}
 use Rattle.kin.specs.Loop.{try_more, try_no, try_yes}
-use Rattle.kin.specs.Kin.{Children}
 use Rattle.kin.proofs.children_ok.Goals as goal
 
 pub loop-i-init : goal.loop-i-init

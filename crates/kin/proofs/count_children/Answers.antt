@@ -1,7 +1,5 @@
 -- `kin::count_children` meets its contract: the children below i are counted.
-use Rattle.std.specs.Prelude.{◌-◌}
-use Rattle.rules.specs.Code.{mem_in}
-use Rattle.kin.specs.Count.{Counting, count-asks, count-more, count-end}
+use Rattle.kin.specs.Count.{count-asks, count-more, count-end}
 use Rattle.kin.specs.Kin.{count-start}
 use Rattle.kin.proofs.count_children.Goals as goal
 

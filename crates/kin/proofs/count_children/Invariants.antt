@@ -1,8 +1,7 @@
 -- `kin::count_children` meets its contract: the children below i are counted.
 use Rattle.std.specs.Prelude.{◌-◌}
 use Rattle.rules.specs.Code.{mem_in}
-use Rattle.kin.specs.Count.{Counting, count-asks, count-more, count-end}
-use Rattle.kin.specs.Kin.{count-start}
+use Rattle.kin.specs.Count.{Counting}
 use Rattle.kin.proofs.count_children.Given as goal
 
 abbrev pub invariant-loop-i : goal.invariant-loop-i

@@ -1,8 +1,5 @@
 -- `kin::fill_pids` meets its contract: the array holds the pids so far, and the links spell the rest.
-use Rattle.std.specs.Prelude.{◌-◌}
-use Rattle.state.specs.Places.{sizes_in}
-use Rattle.rules.specs.Code.{mem_in}
-use Rattle.kin.specs.Living.{Filling, fill_start, fill-room, fill_more, fill_end}
+use Rattle.kin.specs.Living.{fill_start, fill-room, fill_more, fill_end}
 use Rattle.kin.proofs.fill_pids.Goals as goal
 
 pub loop-link-init : goal.loop-link-init

@@ -2,7 +2,7 @@
 use Rattle.std.specs.Prelude.{◌-◌}
 use Rattle.state.specs.Places.{sizes_in}
 use Rattle.rules.specs.Code.{mem_in}
-use Rattle.kin.specs.Living.{Filling, fill_start, fill-room, fill_more, fill_end}
+use Rattle.kin.specs.Living.{Filling}
 use Rattle.kin.proofs.fill_pids.Given as goal
 
 abbrev pub invariant-loop-link : goal.invariant-loop-link

@@ -1,6 +1,5 @@
 -- `kin::has` meets its contract: what is below lo is less, and what is from hi on is more.
-use Rattle.std.specs.Prelude.{◌-◌}
-use Rattle.kin.specs.Search.{Searching, search_start, search_found, search_up, search_down, search_none}
+use Rattle.kin.specs.Search.{search_start, search_found, search_up, search_down, search_none}
 use Rattle.kin.proofs.has.Goals as goal
 
 pub loop-lo-init : goal.loop-lo-init

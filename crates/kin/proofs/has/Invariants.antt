@@ -1,6 +1,6 @@
 -- `kin::has` meets its contract: what is below lo is less, and what is from hi on is more.
 use Rattle.std.specs.Prelude.{◌-◌}
-use Rattle.kin.specs.Search.{Searching, search_start, search_found, search_up, search_down, search_none}
+use Rattle.kin.specs.Search.{Searching}
 use Rattle.kin.proofs.has.Given as goal
 
 abbrev pub invariant-loop-lo : goal.invariant-loop-lo

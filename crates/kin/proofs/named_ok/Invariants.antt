@@ -2,8 +2,7 @@
 use Rattle.std.specs.Prelude.{◌-◌}
 use Rattle.state.specs.Places.{sizes_in}
 use Rattle.rules.specs.Code.{mem_in}
-use Rattle.rules.specs.Loop.{Passing, pass_start}
-use Rattle.kin.specs.Loop.{try_more, try_no, try_yes}
+use Rattle.rules.specs.Loop.{Passing}
 use Rattle.kin.specs.Living.{Named}
 use Rattle.kin.proofs.named_ok.Given as goal
 

@@ -1,7 +1,6 @@
 -- `make::clear` meets its contract: at each turn the first i bytes are 0 and the rest are as they were.
-use Rattle.std.specs.Prelude.{◌-◌}
 use Rattle.std.proofs.Common.{arith}
-use Rattle.make.specs.Code.{Clearing, clear-start, clear-more, clear-end}
+use Rattle.make.specs.Code.{clear-start, clear-more, clear-end}
 use Rattle.make.proofs.clear.Goals as goal
 
 pub loop-i-init : goal.loop-i-init

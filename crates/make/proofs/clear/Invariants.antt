@@ -1,7 +1,6 @@
 -- `make::clear` meets its contract: at each turn the first i bytes are 0 and the rest are as they were.
 use Rattle.std.specs.Prelude.{◌-◌}
-use Rattle.std.proofs.Common.{arith}
-use Rattle.make.specs.Code.{Clearing, clear-start, clear-more, clear-end}
+use Rattle.make.specs.Code.{Clearing}
 use Rattle.make.proofs.clear.Given as goal
 
 abbrev pub invariant-loop-i : goal.invariant-loop-i

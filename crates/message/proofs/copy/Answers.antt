@@ -1,6 +1,5 @@
 -- `message::copy` meets its contract: the first `i` bytes are there, and the rest are as they were. The measure is what is left.
-use Rattle.message.specs.Cut.{Copying, copy_start, copy_more, copy-end}
-use Rattle.std.specs.Prelude.{◌-◌}
+use Rattle.message.specs.Cut.{copy_start, copy_more, copy-end}
 use Rattle.message.proofs.copy.Goals as goal
 
 pub loop-i-init : goal.loop-i-init

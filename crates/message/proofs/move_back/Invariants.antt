@@ -1,5 +1,5 @@
 -- `message::move_back` meets its contract: from `n` the way back ends where it ends from 127. The measure is `n`.
-use Rattle.message.specs.Cut.{Moving, move_start, move_low, move_high, move_more, move_zero}
+use Rattle.message.specs.Cut.{Moving}
 use Rattle.message.proofs.move_back.Given as goal
 
 abbrev pub invariant-loop-n : goal.invariant-loop-n

@@ -1,6 +1,5 @@
 -- `message::name_len` meets its contract: no byte passed is zero. The measure is what is left of the name.
-use Rattle.message.specs.Text.{Naming, name-start, name-more, name-zero, name-end}
-use Rattle.std.specs.Prelude.{◌-◌, length}
+use Rattle.message.specs.Text.{name-start, name-more, name-zero, name-end}
 use Rattle.message.proofs.name_len.Goals as goal
 
 pub loop-i-init : goal.loop-i-init

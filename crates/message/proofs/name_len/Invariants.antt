@@ -1,5 +1,5 @@
 -- `message::name_len` meets its contract: no byte passed is zero. The measure is what is left of the name.
-use Rattle.message.specs.Text.{Naming, name-start, name-more, name-zero, name-end}
+use Rattle.message.specs.Text.{Naming}
 use Rattle.std.specs.Prelude.{◌-◌, length}
 use Rattle.message.proofs.name_len.Given as goal
 

@@ -1,5 +1,5 @@
 -- `message::put_digits` meets its contract: the digits from `at` are there, and those of `n` are left. The measure is `n`.
-use Rattle.message.specs.Digits.{Writing, digits-start, digits_more, digits-end}
+use Rattle.message.specs.Digits.{digits-start, digits_more, digits-end}
 use Rattle.std.proofs.Common.{arith}
 use Rattle.std.proofs.Common.{rules}
 use Rattle.message.proofs.put_digits.Goals as goal

@@ -1,6 +1,5 @@
 -- `message::put_digits` meets its contract: the digits from `at` are there, and those of `n` are left. The measure is `n`.
-use Rattle.message.specs.Digits.{Writing, digits-start, digits_more, digits-end}
-use Rattle.std.proofs.Common.{arith}
+use Rattle.message.specs.Digits.{Writing}
 use Rattle.message.proofs.put_digits.Given as goal
 
 abbrev pub invariant-loop-n : goal.invariant-loop-n

@@ -1,6 +1,5 @@
 -- `parse::copy` meets its contract: the first `i` bytes are there. The measure is how many are left.
-use Rattle.parse.specs.Puts.{Copying, copying_start, copying_more, copied}
-use Rattle.std.specs.Prelude.{◌-◌, length}
+use Rattle.parse.specs.Puts.{copying_start, copying_more, copied}
 use Rattle.parse.proofs.copy.Goals as goal
 
 pub loop-i-init : goal.loop-i-init

@@ -1,5 +1,5 @@
 -- `parse::copy` meets its contract: the first `i` bytes are there. The measure is how many are left.
-use Rattle.parse.specs.Puts.{Copying, copying_start, copying_more, copied}
+use Rattle.parse.specs.Puts.{Copying}
 use Rattle.std.specs.Prelude.{◌-◌, length}
 use Rattle.parse.proofs.copy.Given as goal
 

@@ -1,6 +1,5 @@
 -- `parse::read_number` meets its contract: the bytes passed are digits of the value so far. The measure is what is left of the line.
-use Rattle.parse.specs.Numeral.{Digits, digits-start, digits_more, digits_fit, tenfold_fit, numeral_space, numeral_low, numeral_high, numeral_big, numeral_end}
-use Rattle.std.specs.Prelude.{◌-◌, length}
+use Rattle.parse.specs.Numeral.{digits-start, digits_more, digits_fit, tenfold_fit, numeral_space, numeral_low, numeral_high, numeral_big, numeral_end}
 use Rattle.parse.proofs.read_number.Goals as goal
 
 pub loop-i-init : goal.loop-i-init

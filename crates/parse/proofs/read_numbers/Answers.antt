@@ -1,6 +1,5 @@
 -- `parse::read_numbers` meets its contract: the numbers so far are there, and the line goes on at `at`. The measure is how many are left.
-use Rattle.parse.specs.Filled.{Filling, filling_start, filling_more, filled-short, filled_none, filled-end}
-use Rattle.std.specs.Prelude.{◌-◌}
+use Rattle.parse.specs.Filled.{filling_start, filling_more, filled-short, filled_none, filled-end}
 use Rattle.parse.proofs.read_numbers.Goals as goal
 
 pub loop-j-init : goal.loop-j-init

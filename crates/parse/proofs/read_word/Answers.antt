@@ -1,6 +1,5 @@
 -- `parse::read_word` meets its contract: the bytes passed are letters with the key so far. The measure is what is left of the line.
-use Rattle.parse.specs.Named.{Naming, naming_start, naming_more, named_space, named_other, named-long, named_end, letter-fits, key_fits, place-fits}
-use Rattle.std.specs.Prelude.{◌-◌, length}
+use Rattle.parse.specs.Named.{naming_start, naming_more, named_space, named_other, named-long, named_end, letter-fits, key_fits, place-fits}
 use Rattle.parse.proofs.read_word.Goals as goal
 
 pub loop-i-init : goal.loop-i-init

@@ -1,6 +1,5 @@
 -- `parse::store` meets its contract: the first `j` numbers are there. The measure is how many are left.
-use Rattle.parse.specs.Stores.{Storing, storing_start, storing_more, stored}
-use Rattle.std.specs.Prelude.{◌-◌}
+use Rattle.parse.specs.Stores.{storing_start, storing_more, stored}
 use Rattle.parse.proofs.store.Goals as goal
 
 pub loop-j-init : goal.loop-j-init

@@ -1,5 +1,5 @@
 -- `parse::store` meets its contract: the first `j` numbers are there. The measure is how many are left.
-use Rattle.parse.specs.Stores.{Storing, storing_start, storing_more, stored}
+use Rattle.parse.specs.Stores.{Storing}
 use Rattle.std.specs.Prelude.{◌-◌}
 use Rattle.parse.proofs.store.Given as goal
 

@@ -1,5 +1,5 @@
 -- `print::put_digits` meets its contract: the digits behind `i` are there, and those of `m` are left. The measure is `m`.
-use Rattle.print.specs.Decimal.{Filling, fill_start, fill_more, fill_end}
+use Rattle.print.specs.Decimal.{fill_start, fill_more, fill_end}
 use Rattle.print.proofs.put_digits.Goals as goal
 
 pub loop-m-init : goal.loop-m-init

@@ -1,6 +1,6 @@
 -- `print::put_reply` meets its contract: each answer by its law.
 use Rattle.machine.specs.Basics.{ascii}
-use Rattle.print.specs.Reply.{run_child_part, run_child-room, child_part, child-room, reply-pid, reply-run, reply-run-child, reply-done, reply-asleep, reply-yes, reply-no, reply-fired, reply-exit, reply-child, reply-idle, reply-end, reply-refused}
+use Rattle.print.specs.Reply.{run_child_part, run_child-room, child-room, reply-pid, reply-run, reply-run-child, reply-done, reply-asleep, reply-yes, reply-no, reply-fired, reply-exit, reply-child, reply-idle, reply-end, reply-refused}
 use Rattle.print.proofs.put_reply.Goals as goal
 
 pub slice_bounds-put_run_child-end : goal.slice_bounds-put_run_child-end

@@ -1,5 +1,5 @@
 -- `print::put_rest` meets its contract: those that `link` leads to are left. The measure is how many they are.
-use Rattle.print.specs.Rest.{from, Walking, rest-start, rest_comma, rest-pid, rest_more, rest-less, rest_end}
+use Rattle.print.specs.Rest.{from, Walking}
 use Rattle.std.specs.Prelude.{length}
 use Rattle.print.proofs.put_rest.Given as goal
 

@@ -1,6 +1,5 @@
 -- `print::put_text` meets its contract: the first `i` bytes are there. The measure is what is left.
-use Rattle.print.specs.Put.{Copying, copy_start, copy_more, copy-end}
-use Rattle.std.specs.Prelude.{◌-◌}
+use Rattle.print.specs.Put.{copy_start, copy_more, copy-end}
 use Rattle.print.proofs.put_text.Goals as goal
 
 pub loop-i-init : goal.loop-i-init

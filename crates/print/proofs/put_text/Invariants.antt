@@ -1,5 +1,5 @@
 -- `print::put_text` meets its contract: the first `i` bytes are there. The measure is what is left.
-use Rattle.print.specs.Put.{Copying, copy_start, copy_more, copy-end}
+use Rattle.print.specs.Put.{Copying}
 use Rattle.std.specs.Prelude.{◌-◌}
 use Rattle.print.proofs.put_text.Given as goal
 

@@ -1,6 +1,5 @@
 -- `print::width` meets its contract: `p` is the power of ten of so many digits. The measure is how far it is below `n`.
-use Rattle.print.specs.Width.{Counting, count-start, count-more, count-end}
-use Rattle.std.specs.Prelude.{◌-◌}
+use Rattle.print.specs.Width.{count-start, count-more, count-end}
 use Rattle.print.proofs.width.Goals as goal
 
 pub loop-p-init : goal.loop-p-init

@@ -1,5 +1,5 @@
 -- `print::width` meets its contract: `p` is the power of ten of so many digits. The measure is how far it is below `n`.
-use Rattle.print.specs.Width.{Counting, count-start, count-more, count-end}
+use Rattle.print.specs.Width.{Counting}
 use Rattle.std.specs.Prelude.{◌-◌}
 use Rattle.print.proofs.width.Given as goal
 

@@ -1,7 +1,6 @@
 -- `proc_fork::padded` meets its contract: byte by byte.
-use Rattle.std.specs.Prelude.{◌-◌, length}
 use Rattle.std.proofs.Common.{arith}
-use Rattle.proc_fork.specs.Pad.{Padding, padding-start, padding-more, padding-end}
+use Rattle.proc_fork.specs.Pad.{padding-start, padding-more, padding-end}
 use Rattle.proc_fork.proofs.padded.Goals as goal
 
 pub loop-j-init : goal.loop-j-init

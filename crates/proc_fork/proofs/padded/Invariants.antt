@@ -1,7 +1,6 @@
 -- `proc_fork::padded` meets its contract: byte by byte.
 use Rattle.std.specs.Prelude.{◌-◌, length}
-use Rattle.std.proofs.Common.{arith}
-use Rattle.proc_fork.specs.Pad.{Padding, padding-start, padding-more, padding-end}
+use Rattle.proc_fork.specs.Pad.{Padding}
 use Rattle.proc_fork.proofs.padded.Given as goal
 
 abbrev pub invariant-loop-j : goal.invariant-loop-j

@@ -1,8 +1,6 @@
 -- `proc_intr::interrupt` meets its contract. The invariant: from here the definition goes on to where it takes the first bytes. The measure
 -- is the firings owed.
-use Rattle.std.specs.Prelude.{◌≡◌, length}
-use Rattle.proc_intr.specs.Owed.{owed_in}
-use Rattle.proc_intr.specs.Interrupt.{Interrupting, int_start, int_less, int_room, int_step, int_end}
+use Rattle.proc_intr.specs.Interrupt.{int_start, int_less, int_room, int_step, int_end}
 use Rattle.std.proofs.Common.{rules}
 use Rattle.proc_intr.proofs.interrupt.Goals as goal
 

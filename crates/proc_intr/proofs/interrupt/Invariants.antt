@@ -2,7 +2,7 @@
 -- is the firings owed.
 use Rattle.std.specs.Prelude.{◌≡◌, length}
 use Rattle.proc_intr.specs.Owed.{owed_in}
-use Rattle.proc_intr.specs.Interrupt.{Interrupting, int_start, int_less, int_room, int_step, int_end}
+use Rattle.proc_intr.specs.Interrupt.{Interrupting}
 use Rattle.proc_intr.proofs.interrupt.Given as goal
 
 abbrev pub invariant-loop-z : goal.invariant-loop-z

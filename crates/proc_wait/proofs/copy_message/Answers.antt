@@ -1,7 +1,6 @@
 -- `proc_wait::copy_message` meets its contract: byte by byte.
-use Rattle.std.specs.Prelude.{◌-◌}
 use Rattle.std.proofs.Common.{arith}
-use Rattle.proc_wait.specs.Copy.{Copying, copy_start, copy_more, copy-end}
+use Rattle.proc_wait.specs.Copy.{copy_start, copy_more, copy-end}
 use Rattle.proc_wait.proofs.copy_message.Goals as goal
 
 pub loop-j-init : goal.loop-j-init

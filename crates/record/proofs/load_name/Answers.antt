@@ -1,7 +1,6 @@
 -- `record::load_name` meets its contract: byte by byte.
-use Rattle.std.specs.Prelude.{◌-◌}
 use Rattle.std.proofs.Common.{arith}
-use Rattle.record.specs.Loads.{Naming, naming_start, naming_more, naming_end}
+use Rattle.record.specs.Loads.{naming_start, naming_more, naming_end}
 use Rattle.record.proofs.load_name.Goals as goal
 
 pub loop-j-init : goal.loop-j-init

@@ -1,7 +1,6 @@
 -- `record::store_name` meets its contract: byte by byte.
-use Rattle.std.specs.Prelude.{◌-◌}
 use Rattle.std.proofs.Common.{arith}
-use Rattle.record.specs.Stores.{Storing, storing_start, storing_more, storing_end}
+use Rattle.record.specs.Stores.{storing_start, storing_more, storing_end}
 use Rattle.record.proofs.store_name.Goals as goal
 
 pub loop-j-init : goal.loop-j-init

@@ -1,7 +1,6 @@
 -- `record::store_name` meets its contract: byte by byte.
 use Rattle.std.specs.Prelude.{◌-◌}
-use Rattle.std.proofs.Common.{arith}
-use Rattle.record.specs.Stores.{Storing, storing_start, storing_more, storing_end}
+use Rattle.record.specs.Stores.{Storing}
 use Rattle.record.proofs.store_name.Given as goal
 
 abbrev pub invariant-loop-j : goal.invariant-loop-j

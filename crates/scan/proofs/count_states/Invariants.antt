@@ -1,7 +1,7 @@
 -- `scan::count_states` meets its contract: at each turn the records below i are counted.
 use Rattle.std.specs.Prelude.{◌-◌}
 use Rattle.rules.specs.Code.{mem_in}
-use Rattle.scan.specs.Tallies.{Counting, counting_start, counting_more, counting_end}
+use Rattle.scan.specs.Tallies.{Counting}
 use Rattle.scan.proofs.count_states.Given as goal
 
 abbrev pub invariant-loop-i : goal.invariant-loop-i

@@ -1,7 +1,5 @@
 -- `scan::line_ok` meets its contract: n were met, each may stand in the queue, and the next link is `link`.
-use Rattle.std.specs.Prelude.{◌-◌}
-use Rattle.rules.specs.Code.{mem_in}
-use Rattle.scan.specs.Lines.{Lining, line-start, line-more, line-long, line-bad, line-tail, line-yes}
+use Rattle.scan.specs.Lines.{line-start, line-more, line-long, line-bad, line-tail, line-yes}
 use Rattle.rules.specs.Loop.{passed, failed}
 use Rattle.std.proofs.lemmas.Bool.{not_from_true}
 use Rattle.std.proofs.lemmas.Bool.{not_from_false}

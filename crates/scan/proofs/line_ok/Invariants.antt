@@ -1,8 +1,7 @@
 -- `scan::line_ok` meets its contract: n were met, each may stand in the queue, and the next link is `link`.
 use Rattle.std.specs.Prelude.{◌-◌}
 use Rattle.rules.specs.Code.{mem_in}
-use Rattle.scan.specs.Lines.{Lining, line-start, line-more, line-long, line-bad, line-tail, line-yes}
-use Rattle.rules.specs.Loop.{passed, failed}
+use Rattle.scan.specs.Lines.{Lining}
 use Rattle.scan.proofs.line_ok.Given as goal
 
 abbrev pub invariant-loop-link : goal.invariant-loop-link

@@ -1,8 +1,7 @@
 -- `scan::locks_ok` meets its contract: the locks below q are right, and `left` waiters are not yet met.
-use Rattle.std.proofs.Common.{arith}
 use Rattle.std.specs.Prelude.{◌-◌}
 use Rattle.rules.specs.Code.{mem_in}
-use Rattle.scan.specs.Locks.{Locking, locking_start, locking_fits, locking_more, locking_bad, locking_yes, locking_no}
+use Rattle.scan.specs.Locks.{Locking}
 use Rattle.scan.proofs.locks_ok.Given as goal
 
 abbrev pub invariant-loop-q : goal.invariant-loop-q

@@ -1,10 +1,9 @@
 -- `scan::records_ok` meets its contract: the records below i are right.
-use Rattle.std.specs.Prelude.{refl, ◌-◌}
-use Rattle.std.proofs.Common.{arith}
+use Rattle.std.specs.Prelude.{◌-◌}
 use Rattle.state.specs.Places.{sizes_in}
 use Rattle.rules.specs.Code.{mem_in}
 use Rattle.rules.specs.Facts.{RecordOk}
-use Rattle.rules.specs.Loop.{Passing, pass_start, pass_more, pass_end, passed, failed}
+use Rattle.rules.specs.Loop.{Passing}
 use Rattle.scan.proofs.records_ok.Given as goal
 
 abbrev pub invariant-loop-i : goal.invariant-loop-i

@@ -1,9 +1,7 @@
 -- `scan::rendez_ok` meets its contract: the Rendez below r are right.
-use Rattle.std.specs.Prelude.{refl, ◌-◌}
+use Rattle.std.specs.Prelude.{refl}
 use Rattle.std.proofs.Common.{arith}
-use Rattle.rules.specs.Code.{mem_in}
-use Rattle.rules.specs.Facts.{RendezOk}
-use Rattle.rules.specs.Loop.{Passing, pass_start, pass_more, pass_end, passed, failed}
+use Rattle.rules.specs.Loop.{pass_start, pass_more, pass_end, passed, failed}
 use Rattle.std.proofs.lemmas.Bool.{not_from_true}
 use Rattle.std.proofs.lemmas.Bool.{not_from_false}
 use Rattle.scan.proofs.rendez_ok.Goals as goal

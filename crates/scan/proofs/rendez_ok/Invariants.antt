@@ -1,9 +1,8 @@
 -- `scan::rendez_ok` meets its contract: the Rendez below r are right.
-use Rattle.std.specs.Prelude.{refl, ◌-◌}
-use Rattle.std.proofs.Common.{arith}
+use Rattle.std.specs.Prelude.{◌-◌}
 use Rattle.rules.specs.Code.{mem_in}
 use Rattle.rules.specs.Facts.{RendezOk}
-use Rattle.rules.specs.Loop.{Passing, pass_start, pass_more, pass_end, passed, failed}
+use Rattle.rules.specs.Loop.{Passing}
 use Rattle.scan.proofs.rendez_ok.Given as goal
 
 abbrev pub invariant-loop-r : goal.invariant-loop-r

@@ -2,7 +2,6 @@
 use Rattle.std.specs.Prelude.{◌≡◌}
 use Rattle.std.proofs.Common.{arith}
 use Rattle.layout.specs.Table.{start}
-use Rattle.state.proofs.start_low.Reads as start-low-reads
 use Rattle.state.proofs.start_high.Goals as goal
 
 pub returns-then-region-eq7 : goal.returns-then-region-eq7

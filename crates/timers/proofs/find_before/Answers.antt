@@ -1,9 +1,7 @@
 -- `timers::find_before` meets its contract. The invariant: what is left is a chain, its spot is the one looked for, and the key is the deadline
 -- of its first. The measure is the length of what is left.
-use Rattle.timers.specs.Find.{Finding, DeadlineOf, from_link, head_near, find_start, find_step, find_less, find_end, find_stop}
+use Rattle.timers.specs.Find.{head_near, find_start, find_step, find_less, find_end, find_stop}
 use Rattle.timers.specs.Read.{read_next}
-use Rattle.state.specs.Places.{mem_in}
-use Rattle.std.specs.Prelude.{length}
 use Rattle.std.proofs.Common.{rules}
 use Rattle.timers.proofs.find_before.Goals as goal
 

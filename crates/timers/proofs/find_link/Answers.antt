@@ -1,8 +1,6 @@
 -- `timers::find_link` meets its contract. The invariant: `link` is passed, and the link before t, behind it, is the one looked for. The measure is
 -- the length of what is behind.
-use Rattle.timers.specs.Seek.{Passed, behind_in, passed_first, passed-step, passed-less, passed-end, passed-stop, front-end, front-stop}
-use Rattle.state.specs.Places.{mem_in}
-use Rattle.std.specs.Prelude.{length}
+use Rattle.timers.specs.Seek.{passed_first, passed-step, passed-less, passed-end, passed-stop, front-end, front-stop}
 use Rattle.timers.proofs.find_link.Goals as goal
 
 pub returns-then-link-eq0 : goal.returns-then-link-eq0

@@ -27,7 +27,7 @@ pub returns-then-not-idle_ok : goal.returns-then-not-idle_ok
 returns-then-not-idle_ok c = λ f. failed c.idle_ok.result c.idle_ok.ensures (not_from_false _ c.if-not-idle_ok.true) f.idle
 
 pub returns : goal.returns
-returns c = 
+returns c =
     decides_as c.index_ok.result
     (facts-all
     (passed c.processes_ok.result c.processes_ok.ensures (not_from_true _ c.if-not-processes_ok.false))

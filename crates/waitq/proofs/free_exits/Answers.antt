@@ -1,6 +1,6 @@
 -- `waitq::free_exits` meets its contract: one exit after another.
 use Rattle.std.proofs.Common.{arith}
-use Rattle.waitq.specs.Clear.{Clearing, clear-reach, clear-start, clear-take, clear_step, clear-end}
+use Rattle.waitq.specs.Clear.{clear-reach, clear-start, clear-take, clear_step, clear-end}
 use Rattle.waitq.proofs.free_exits.Goals as goal
 
 pub get8-n-requires : goal.get8-n-requires

@@ -1,6 +1,5 @@
 -- `waitq::free_exits` meets its contract: one exit after another.
-use Rattle.std.proofs.Common.{arith}
-use Rattle.waitq.specs.Clear.{Clearing, clear-reach, clear-start, clear-take, clear_step, clear-end}
+use Rattle.waitq.specs.Clear.{Clearing}
 use Rattle.waitq.proofs.free_exits.Given as goal
 
 abbrev pub invariant-loop-n : goal.invariant-loop-n

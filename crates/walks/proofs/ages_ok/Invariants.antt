@@ -1,6 +1,6 @@
 -- `walks::ages_ok` meets its contract: n of the living were met, the last of them by the link `last`. The measure is how many more there may be.
 use Rattle.std.specs.Prelude.{◌-◌}
-use Rattle.walks.specs.Ages.{AgeWalking, age_start, age-more, age_long, age_unlinked, age_low, age_other, age_end}
+use Rattle.walks.specs.Ages.{AgeWalking}
 use Rattle.walks.proofs.ages_ok.Given as goal
 
 abbrev pub invariant-loop-link : goal.invariant-loop-link

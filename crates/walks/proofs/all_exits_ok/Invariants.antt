@@ -1,6 +1,6 @@
 -- `walks::all_exits_ok` meets its contract: the records below i are in order and have n exits. The measure is how many records are left.
 use Rattle.std.specs.Prelude.{◌-◌}
-use Rattle.walks.specs.AllExits.{ExitsSumming, exits-start, exits-more, exits-bad, exits-end}
+use Rattle.walks.specs.AllExits.{ExitsSumming}
 use Rattle.walks.proofs.all_exits_ok.Given as goal
 
 abbrev pub invariant-loop-i : goal.invariant-loop-i

@@ -3,7 +3,7 @@ use Rattle.std.specs.Prelude.{◌-◌}
 use Rattle.state.specs.Abs.{is_set}
 use Rattle.state.specs.Fields as fields
 use Rattle.rules.specs.Code.{mem_in}
-use Rattle.walks.specs.Loops.{Counting, count-start, count-more, count-end}
+use Rattle.walks.specs.Loops.{Counting}
 use Rattle.walks.proofs.count_living.Given as goal
 
 abbrev pub invariant-loop-i : goal.invariant-loop-i

@@ -1,9 +1,5 @@
 -- `walks::count_owned` meets its contract: the cells below c were counted. The measure is how many are left.
-use Rattle.std.specs.Prelude.{◌-◌}
-use Rattle.state.specs.Abs.{is_set}
-use Rattle.state.specs.Fields as fields
-use Rattle.rules.specs.Code.{mem_in}
-use Rattle.walks.specs.Loops.{Counting, count-start, count-more, count-end}
+use Rattle.walks.specs.Loops.{count-start, count-more, count-end}
 use Rattle.walks.proofs.count_owned.Goals as goal
 
 pub loop-c-init : goal.loop-c-init

@@ -1,8 +1,5 @@
 -- `walks::count_queued` meets its contract: the timers below t were counted. The measure is how many are left.
-use Rattle.std.specs.Prelude.{◌+◌, ◌-◌, eqb}
-use Rattle.state.specs.Fields as fields
-use Rattle.rules.specs.Code.{mem_in}
-use Rattle.walks.specs.Loops.{Counting, count-start, count-more, count-end}
+use Rattle.walks.specs.Loops.{count-start, count-more, count-end}
 use Rattle.walks.proofs.count_queued.Goals as goal
 
 pub loop-t-init : goal.loop-t-init

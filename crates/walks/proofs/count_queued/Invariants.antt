@@ -2,7 +2,7 @@
 use Rattle.std.specs.Prelude.{◌+◌, ◌-◌, eqb}
 use Rattle.state.specs.Fields as fields
 use Rattle.rules.specs.Code.{mem_in}
-use Rattle.walks.specs.Loops.{Counting, count-start, count-more, count-end}
+use Rattle.walks.specs.Loops.{Counting}
 use Rattle.walks.proofs.count_queued.Given as goal
 
 abbrev pub invariant-loop-t : goal.invariant-loop-t

@@ -1,8 +1,5 @@
 -- `walks::exits_ok` meets its contract: k cells were met. The measure is how many more the record says there are.
-use Rattle.std.specs.Prelude.{◌-◌}
-use Rattle.state.specs.Fields as fields
-use Rattle.rules.specs.Code.{mem_in}
-use Rattle.walks.specs.Exits.{ExitWalking, exit-start, exit-more, exit-long, exit-other, exit-end, exit-short}
+use Rattle.walks.specs.Exits.{exit-start, exit-more, exit-long, exit-other, exit-end, exit-short}
 use Rattle.walks.proofs.exits_ok.Goals as goal
 
 pub loop-link-init : goal.loop-link-init

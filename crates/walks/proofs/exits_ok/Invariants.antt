@@ -2,7 +2,7 @@
 use Rattle.std.specs.Prelude.{◌-◌}
 use Rattle.state.specs.Fields as fields
 use Rattle.rules.specs.Code.{mem_in}
-use Rattle.walks.specs.Exits.{ExitWalking, exit-start, exit-more, exit-long, exit-other, exit-end, exit-short}
+use Rattle.walks.specs.Exits.{ExitWalking}
 use Rattle.walks.proofs.exits_ok.Given as goal
 
 abbrev pub invariant-loop-link : goal.invariant-loop-link

@@ -1,6 +1,6 @@
 -- `walks::timer_queue_ok` meets its contract: n timers were met, the last of deadline `last`. The measure is how many more there may be.
 use Rattle.std.specs.Prelude.{◌+◌, ◌-◌}
-use Rattle.walks.specs.TimerQueue.{TimerWalking, timer-start, timer-more, timer-long, timer_unqueued, timer_early, timer-end}
+use Rattle.walks.specs.TimerQueue.{TimerWalking}
 use Rattle.walks.proofs.timer_queue_ok.Given as goal
 
 abbrev pub invariant-loop-link : goal.invariant-loop-link

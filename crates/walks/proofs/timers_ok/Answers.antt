@@ -1,10 +1,6 @@
 -- `walks::timers_ok` meets its contract: the timers below t are in order. The measure is how many are left.
-use Rattle.std.specs.Prelude.{◌+◌, ◌-◌}
-use Rattle.state.specs.Places.{sizes_in}
-use Rattle.rules.specs.Code.{mem_in}
-use Rattle.rules.specs.Facts.{TimerOk}
 use Rattle.walks.specs.Loops.{all-more, all-no}
-use Rattle.rules.specs.Loop.{Passing, pass_start, pass_end}
+use Rattle.rules.specs.Loop.{pass_start, pass_end}
 use Rattle.walks.proofs.timers_ok.Goals as goal
 
 pub loop-t-init : goal.loop-t-init

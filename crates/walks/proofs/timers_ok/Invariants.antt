@@ -3,8 +3,7 @@ use Rattle.std.specs.Prelude.{◌+◌, ◌-◌}
 use Rattle.state.specs.Places.{sizes_in}
 use Rattle.rules.specs.Code.{mem_in}
 use Rattle.rules.specs.Facts.{TimerOk}
-use Rattle.walks.specs.Loops.{all-more, all-no}
-use Rattle.rules.specs.Loop.{Passing, pass_start, pass_end}
+use Rattle.rules.specs.Loop.{Passing}
 use Rattle.walks.proofs.timers_ok.Given as goal
 
 abbrev pub invariant-loop-t : goal.invariant-loop-t
