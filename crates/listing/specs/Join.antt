@@ -1,5 +1,5 @@
 -- One turn after another.
-use Rattle.std.specs.Prelude.{refl, List, [], ◌++◌, ℕ, ◌+◌, ◌≤◌}
+use Rattle.std.specs.Prelude.{refl, List, [], ◌++◌, ℕ, ◌≤◌}
 use Rattle.std.proofs.Common.{sym, ap, ◌∙◌, append_assoc, append-nil, arith, length-append}
 use Rattle.machine.specs.Machine.{Machine}
 use Rattle.machine.specs.Parse.{lines_of}

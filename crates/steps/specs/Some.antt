@@ -2,7 +2,6 @@
 use Rattle.std.specs.Prelude.{◌≡◌, true, false, List, ◌++◌, ℕ, ◌+◌, ◌^◌, ◌≤◌, ◌<◌, length}
 use Rattle.std.proofs.lemmas.Bool.{false≢true}
 use Rattle.std.proofs.Common.{arith}
-use Rattle.machine.specs.Machine as machine
 use Rattle.machine.specs.Listing.{listing_at}
 use Rattle.state.specs.Places.{sizes_in}
 use Rattle.state.specs.declared.Sizes.{Sizes}

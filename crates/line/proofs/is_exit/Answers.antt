@@ -1,6 +1,4 @@
 use Rattle.line.specs.Line.{case_is}
-use Rattle.line.proofs.is_exit.Reads as reads
-use Rattle.line.proofs.is_exit.Lts as lts
 use Rattle.line.proofs.is_exit.Goals as goal
 
 -- src/lib.rt:9:1

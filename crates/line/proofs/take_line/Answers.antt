@@ -1,9 +1,5 @@
 -- `line::take_line` meets its contract: each need by its law.
 use Rattle.line.specs.Took.{line-length, line_step, line_takes}
-use Rattle.line.proofs.take_line.Reads as reads
-use Rattle.line.proofs.take_line.Lts as lts
-use Rattle.line.proofs.take_step.Reads as take-step-reads
-use Rattle.parse.proofs.parse.Reads as parse-reads
 use Rattle.line.proofs.take_line.Goals as goal
 
 -- src/lib.rt:94:24

@@ -1,11 +1,5 @@
 -- `line::take_step` meets its contract: each need by its law.
 use Rattle.line.specs.Took.{exit-asks, exit-long, exit-took, other-asks, other-took}
-use Rattle.line.proofs.take_step.Reads as reads
-use Rattle.line.proofs.take_step.Lts as lts
-use Rattle.decode.proofs.decode.Reads as decode-reads
-use Rattle.line.proofs.is_exit.Reads as is-exit-reads
-use Rattle.print.proofs.line.Reads as line_reads_lem
-use Rattle.proc.proofs.take_call.Reads as take-call-reads
 use Rattle.std.proofs.Common.{rules}
 use Rattle.line.proofs.take_step.Goals as goal
 

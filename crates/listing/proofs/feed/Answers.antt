@@ -1,6 +1,5 @@
 -- `listing::feed` meets its contract: it has gone so far. The measure is what is left of the chunk.
-use Rattle.listing.specs.Feeding.{Feeding, feed-start, feed-turn, feed-more, feed-full, feed-read}
-use Rattle.std.specs.Prelude.{◌-◌, length}
+use Rattle.listing.specs.Feeding.{feed-start, feed-turn, feed-more, feed-full, feed-read}
 use Rattle.std.proofs.Common.{arith}
 use Rattle.listing.proofs.feed.Goals as goal
 

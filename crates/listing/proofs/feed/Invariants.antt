@@ -1,7 +1,6 @@
 -- `listing::feed` meets its contract: it has gone so far. The measure is what is left of the chunk.
-use Rattle.listing.specs.Feeding.{Feeding, feed-start, feed-turn, feed-more, feed-full, feed-read}
+use Rattle.listing.specs.Feeding.{Feeding}
 use Rattle.std.specs.Prelude.{◌-◌, length}
-use Rattle.std.proofs.Common.{arith}
 use Rattle.listing.proofs.feed.Given as goal
 
 abbrev pub invariant-loop-at : goal.invariant-loop-at

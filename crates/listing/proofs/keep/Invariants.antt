@@ -1,5 +1,5 @@
 -- `listing::keep` meets its contract: the first `i` bytes are kept. The measure is what is left.
-use Rattle.listing.specs.Held.{Keeping, keep-start, keep-more, keep-end}
+use Rattle.listing.specs.Held.{Keeping}
 use Rattle.std.specs.Prelude.{◌-◌}
 use Rattle.listing.proofs.keep.Given as goal
 

@@ -1,5 +1,5 @@
 -- `listing::line_end` meets its contract: no line ends before `i`. The measure is what is left of the chunk.
-use Rattle.listing.specs.Pieces.{Seeking, seek_start, seek_more, seek_none, seek_found}
+use Rattle.listing.specs.Pieces.{Seeking}
 use Rattle.std.specs.Prelude.{◌-◌, length}
 use Rattle.listing.proofs.line_end.Given as goal
 

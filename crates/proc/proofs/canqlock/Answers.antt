@@ -1,9 +1,6 @@
 -- `proc::canqlock` meets its contract: each need by its law.
 use Rattle.proc.specs.Outside.{canqlock-outside}
 use Rattle.proc.specs.Plain.{took-plain}
-use Rattle.proc.proofs.canqlock.Reads as reads
-use Rattle.proc.proofs.canqlock.Lts as lts
-use Rattle.proc_wake.proofs.canqlock.Reads as canqlock-reads
 use Rattle.proc.proofs.canqlock.Goals as goal
 
 pub returns-then-lock-z : goal.returns-then-lock-z

@@ -1,9 +1,6 @@
 -- `proc::cond` meets its contract: each need by its law.
 use Rattle.proc.specs.Outside.{cond-condition, cond_value}
 use Rattle.proc.specs.Plain.{cond-plain}
-use Rattle.proc.proofs.cond.Reads as reads
-use Rattle.proc.proofs.cond.Lts as lts
-use Rattle.proc_wake.proofs.cond.Reads as cond-reads
 use Rattle.proc.proofs.cond.Goals as goal
 
 pub returns-then-condition-gt255 : goal.returns-then-condition-gt255

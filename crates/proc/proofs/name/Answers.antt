@@ -1,8 +1,5 @@
 -- `proc::name` meets its contract: each need by its law.
 use Rattle.proc.specs.Outside.{name-outside}
-use Rattle.proc.proofs.name.Reads as reads
-use Rattle.proc.proofs.name.Lts as lts
-use Rattle.proc_fork.proofs.name.Reads as name-reads
 use Rattle.proc.proofs.name.Goals as goal
 
 pub returns-then-bytes-gt28 : goal.returns-then-bytes-gt28

@@ -1,8 +1,5 @@
 -- `proc::qlock` meets its contract: each need by its law.
 use Rattle.proc.specs.Outside.{qlock-outside}
-use Rattle.proc.proofs.qlock.Reads as reads
-use Rattle.proc.proofs.qlock.Lts as lts
-use Rattle.proc_sleep.proofs.qlock.Reads as qlock-reads
 use Rattle.proc.proofs.qlock.Goals as goal
 
 pub returns-then-lock-z : goal.returns-then-lock-z

@@ -1,9 +1,6 @@
 -- `proc::qunlock` meets its contract: each need by its law.
 use Rattle.proc.specs.Outside.{qunlock-outside}
 use Rattle.proc.specs.Plain.{took-plain}
-use Rattle.proc.proofs.qunlock.Reads as reads
-use Rattle.proc.proofs.qunlock.Lts as lts
-use Rattle.proc_wake.proofs.qunlock.Reads as qunlock-reads
 use Rattle.proc.proofs.qunlock.Goals as goal
 
 pub returns-then-lock-z : goal.returns-then-lock-z

@@ -1,8 +1,5 @@
 -- `proc::rfork` meets its contract: each need by its law.
 use Rattle.proc.specs.Outside.{rfork-flags, rfork_how}
-use Rattle.proc.proofs.rfork.Reads as reads
-use Rattle.proc.proofs.rfork.Lts as lts
-use Rattle.proc_fork.proofs.rfork.Reads as rfork-reads
 use Rattle.proc.proofs.rfork.Goals as goal
 
 pub returns-then-flags-gt4294967295 : goal.returns-then-flags-gt4294967295

@@ -1,8 +1,5 @@
 -- `proc::sleep` meets its contract: each need by its law.
 use Rattle.proc.specs.Outside.{sleep-condition, sleep-rendez}
-use Rattle.proc.proofs.sleep.Reads as reads
-use Rattle.proc.proofs.sleep.Lts as lts
-use Rattle.proc_sleep.proofs.sleep.Reads as sleep-reads
 use Rattle.proc.proofs.sleep.Goals as goal
 
 pub returns-then-rendez-z : goal.returns-then-rendez-z

@@ -1,8 +1,5 @@
 -- `proc::start` meets its contract: each need by its law.
 use Rattle.proc.specs.Outside.{start_outside}
-use Rattle.proc.proofs.start.Reads as reads
-use Rattle.proc.proofs.start.Lts as lts
-use Rattle.proc_start.proofs.start.Reads as start-reads
 use Rattle.proc.proofs.start.Goals as goal
 
 pub returns-then-how-gt2 : goal.returns-then-how-gt2

@@ -1,10 +1,6 @@
 -- `proc::take` meets its contract: each need by its law.
 use Rattle.proc.specs.Arms.{take-took}
 use Rattle.proc.specs.Taken.{taken-short}
-use Rattle.proc.proofs.take.Reads as reads
-use Rattle.proc.proofs.take.Lts as lts
-use Rattle.decode.proofs.decode.Reads as decode-reads
-use Rattle.proc.proofs.take_call.Reads as take-call-reads
 use Rattle.proc.proofs.take.Goals as goal
 
 pub returns-then-message-lt-SHORTEST : goal.returns-then-message-lt-SHORTEST

@@ -1,9 +1,6 @@
 -- `proc::tdel` meets its contract: each need by its law.
 use Rattle.proc.specs.Outside.{tdel-first, tdel-timer}
 use Rattle.proc.specs.Plain.{took-plain}
-use Rattle.proc.proofs.tdel.Reads as reads
-use Rattle.proc.proofs.tdel.Lts as lts
-use Rattle.proc_timer.proofs.tdel.Reads as tdel-reads
 use Rattle.proc.proofs.tdel.Goals as goal
 
 pub returns-then-timer-lt1 : goal.returns-then-timer-lt1

@@ -1,9 +1,6 @@
 -- `proc::wakeup` meets its contract: each need by its law.
 use Rattle.proc.specs.Outside.{wakeup-outside}
 use Rattle.proc.specs.Plain.{took-plain}
-use Rattle.proc.proofs.wakeup.Reads as reads
-use Rattle.proc.proofs.wakeup.Lts as lts
-use Rattle.proc_wake.proofs.wakeup.Reads as wakeup-reads
 use Rattle.proc.proofs.wakeup.Goals as goal
 
 pub returns-then-rendez-z : goal.returns-then-rendez-z

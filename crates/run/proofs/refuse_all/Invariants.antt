@@ -1,10 +1,7 @@
 -- `run::refuse_all` meets its contract: each need by its law.
-use Rattle.std.specs.Prelude.{refl, List, ℕ, ◌-◌, length}
-use Rattle.std.proofs.Common.{arith}
+use Rattle.std.specs.Prelude.{List, ℕ, ◌-◌, length}
 use Rattle.state.specs.WellFormed.{WellFormed}
-use Rattle.run.specs.Steps.{Whole, end_none, end-some}
-use Rattle.run.specs.One.{one-refused}
-use Rattle.run.specs.Loop.{Reached, SoFar, reached_start, so_far-start, ran-ended, ran-full, reached_more, so_far_more}
+use Rattle.run.specs.Loop.{Reached, SoFar}
 use Rattle.run.proofs.refuse_all.Given as goal
 
 abbrev pub invariant-loop-answers : goal.invariant-loop-answers

@@ -1,8 +1,7 @@
 -- `run::run_formed` meets its contract: each need by its law.
-use Rattle.std.specs.Prelude.{◌≡◌, refl, ◌-◌, length}
-use Rattle.step.specs.After.{WellIn}
-use Rattle.run.specs.Steps.{Whole, end_none, end-some}
-use Rattle.run.specs.Loop.{Reached, SoFar, reached_start, so_far-start, ran-ended, ran-full, reached_more, so_far_more}
+use Rattle.std.specs.Prelude.{refl}
+use Rattle.run.specs.Steps.{end_none, end-some}
+use Rattle.run.specs.Loop.{reached_start, so_far-start, ran-ended, ran-full, reached_more, so_far_more}
 use Rattle.std.proofs.Common.{rules, ◌∙◌, arith}
 use Rattle.run.proofs.run_formed.Goals as goal
 
@@ -25,16 +24,16 @@ pub slice_bounds-run_one-end : goal.slice_bounds-run_one-end
 slice_bounds-run_one-end c = (end-some c.loop-answers.invariant.2.steps c.end_of-end.ensures c.if-end-at.false).end
 
 pub overflow_add-n : goal.overflow_add-n
-overflow_add-n c = 
+overflow_add-n c =
     omega (arith, c.loop-answers.invariant.2, c.loop-answers-test.true, c.well_formed)
 
 pub loop-answers-preserved : goal.loop-answers-preserved
 loop-answers-preserved c = (
-      c.run_one.ensures.well,
-      c.run_one.auto.s ∙ c.loop-answers.invariant.1,
-      reached_more c.loop-answers.invariant.2 (end-some c.loop-answers.invariant.2.steps c.end_of-end.ensures c.if-end-at.false) c.loop-answers-test.true (omega arith),
-      so_far_more c.loop-answers.invariant.3 c.loop-answers.invariant.2 (end-some c.loop-answers.invariant.2.steps c.end_of-end.ensures c.if-end-at.false) c.loop-answers-test.true c.run_one.ensures.ran refl,
-    )
+  c.run_one.ensures.well,
+  c.run_one.auto.s ∙ c.loop-answers.invariant.1,
+  reached_more c.loop-answers.invariant.2 (end-some c.loop-answers.invariant.2.steps c.end_of-end.ensures c.if-end-at.false) c.loop-answers-test.true (omega arith),
+  so_far_more c.loop-answers.invariant.3 c.loop-answers.invariant.2 (end-some c.loop-answers.invariant.2.steps c.end_of-end.ensures c.if-end-at.false) c.loop-answers-test.true c.run_one.ensures.ran refl,
+)
 
 pub returns : goal.returns
 returns c = search ran-full

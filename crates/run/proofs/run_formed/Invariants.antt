@@ -1,9 +1,7 @@
 -- `run::run_formed` meets its contract: each need by its law.
-use Rattle.std.specs.Prelude.{◌≡◌, refl, ◌-◌, length}
-use Rattle.std.proofs.Common.{◌∙◌, arith}
+use Rattle.std.specs.Prelude.{◌≡◌, ◌-◌, length}
 use Rattle.step.specs.After.{WellIn}
-use Rattle.run.specs.Steps.{Whole, end_none, end-some}
-use Rattle.run.specs.Loop.{Reached, SoFar, reached_start, so_far-start, ran-ended, ran-full, reached_more, so_far_more}
+use Rattle.run.specs.Loop.{Reached, SoFar}
 use Rattle.run.proofs.run_formed.Given as goal
 
 abbrev pub invariant-loop-answers : goal.invariant-loop-answers

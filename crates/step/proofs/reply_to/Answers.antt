@@ -1,10 +1,5 @@
 -- `step::reply_to` meets its contract: each need by its law.
 use Rattle.step.specs.Exported.{checked-long, checked-well, replied_no, replied_taken}
-use Rattle.step.proofs.reply_to.Reads as reads
-use Rattle.step.proofs.reply_to.Lts as lts
-use Rattle.proc.proofs.take.Reads as take-reads
-use Rattle.verify.proofs.check.Reads as check-reads
-use Rattle.verify.proofs.load_sizes.Reads as load-sizes-reads
 use Rattle.step.proofs.reply_to.Goals as goal
 
 -- src/lib.rt:78:13

@@ -1,9 +1,5 @@
 -- `step::step` meets its contract: each need by its law.
 use Rattle.step.specs.Exported.{exported_answer, exported_refused}
-use Rattle.step.proofs.step.Reads as reads
-use Rattle.step.proofs.step.Lts as lts
-use Rattle.step.proofs.reply_to.Reads as reply-to-reads
-use Rattle.step.proofs.words_of.Reads as words-of-reads
 use Rattle.step.proofs.step.Goals as goal
 
 -- src/lib.rt:86:1

@@ -1,8 +1,5 @@
 -- `step::words_of` meets its contract: each need by its law.
 use Rattle.step.specs.Words.{words_are}
-use Rattle.step.proofs.words_of.Reads as reads
-use Rattle.step.proofs.words_of.Lts as lts
-use Rattle.step.proofs.in_words.Reads as in-words-reads
 use Rattle.step.proofs.words_of.Goals as goal
 
 -- src/lib.rt:52:1
