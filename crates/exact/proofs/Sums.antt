@@ -1,4 +1,4 @@
--- Sums and counts over the numbers below n, and lists of distinct numbers that meet everyone because they are as many.
+-- Lists of a family hold each number once at most, and meet everyone where they are as many.
 use Rattle.std.specs.Prelude.{◌≡◌, refl, Bool, true, false, List, ℕ, ◌≤◌, ◌<◌, ltb, length}
 use Rattle.std.proofs.Common.{sym, ap, ◌∙◌, arith, ltb-true, ltb-false}
 use Rattle.machine.specs.Basics.{count}

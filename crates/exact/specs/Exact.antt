@@ -1,4 +1,4 @@
--- A state is well formed exactly where its sizes, ranges, mark, layout number and the facts that the check decides are right.
+-- What the check decides of a state's bytes. proofs/Exact.antt proves that it is well-formedness.
 use Rattle.std.specs.Prelude.{◌≡◌, List, ℕ}
 use Rattle.machine.specs.Machine.{Sizes}
 use Rattle.machine.specs.Good.{SizesInRange}

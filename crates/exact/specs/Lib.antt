@@ -1,4 +1,4 @@
--- The facts that the check decides are exactly well-formedness.
+-- The facts that the check decides are exactly well-formedness: definitions and laws. proofs/ has the laws that rest on them, and the theorem.
 pub mod Sums
 pub mod Tables
 pub mod Bounds

@@ -1,5 +1,5 @@
--- Demand 3 over a list of steps, as one claim: 01, 'Demand 3 over a list'. `Proof.antt` proves it of every list from every fresh
--- machine, whatever its sizes; `Tight.antt` gives a stay that meets the tick bound.
+-- Demand 3 over a list of steps, as one claim: 01, 'Demand 3 over a list'. proofs/Proved.antt proves it of every list from
+-- every fresh machine, whatever its sizes; proofs/Tight.antt gives a stay that meets the tick bound.
 use Rattle.std.specs.Prelude.{if◌then◌else◌, ◌≡◌, Bool, true, false, List, [], ◌∷◌, ◌++◌, map, ◌⊎◌, ℕ, ◌+◌, ◌*◌, ◌≤◌, ◌<◌, length}
 use Rattle.std.proofs.Math.Option.{Option, none, some}
 use Rattle.machine.specs.Basics.{count}

@@ -1,5 +1,5 @@
--- Laws of the definitions.
+-- The last of the laws, in the order in which to read them: they rest on those of specs/, and Kept has the theorem.
 pub mod Messages
-pub mod Kept
 pub mod Exiting
 pub mod Firings
+pub mod Kept

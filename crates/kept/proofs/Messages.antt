@@ -1,4 +1,4 @@
--- An exit message is at most 127 bytes.
+-- An exit message is bytes.
 use Rattle.std.specs.Prelude.{if◌then◌else◌, Bool, List, [], ◌++◌, ℕ}
 use Rattle.std.proofs.Common.{arith}
 use Rattle.machine.specs.Basics.{is_empty, ascii}

@@ -1,4 +1,4 @@
--- Every step keeps a machine well formed, done or refused.
+-- A refused step keeps a machine well formed. proofs/Kept.antt has every step.
 use Rattle.std.specs.Prelude.{if◌then◌else◌, ◌≡◌, refl, Bool, true, false, ◌&&◌, [], ℕ, suc, eqb}
 use Rattle.std.proofs.Common.{ap, subst, arith, eqb-true}
 use Rattle.std.proofs.Math.Option.{none, some}

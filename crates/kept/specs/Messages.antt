@@ -1,4 +1,4 @@
--- An exit message is at most 127 bytes.
+-- An exit message is at most 127 bytes; and the parts of it are bytes.
 use Rattle.std.specs.Prelude.{if◌then◌else◌, ◌≡◌, refl, Bool, true, false, List, [], ◌∷◌, ◌++◌, ℕ, zero, suc, ◌+◌, ◌/◌, ◌%◌, ◌≤◌, eqb, leb, ltb, length, get_or, take}
 use Rattle.std.proofs.Common.{arith, leb-true, ltb-true, ltb-false, length-take}
 use Rattle.machine.specs.Basics.{is_empty, ascii}

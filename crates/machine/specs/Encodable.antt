@@ -1,4 +1,4 @@
--- What of a step can be encoded: `decode_encode` of proofs/BytesLaws.antt speaks of it.
+-- What of a step can be encoded: `decode-encode` of proofs/BytesLaws.antt speaks of it.
 use Rattle.std.specs.Prelude.{List, [], ◌∷◌, ℕ, ◌^◌, ◌<◌, length}
 use Rattle.machine.specs.Step.{Fields, numbers, bytes}
 

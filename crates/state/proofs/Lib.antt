@@ -1,2 +1,2 @@
--- Laws of the definitions.
+-- The table of layout 1 is sound.
 pub mod Ranges
