@@ -3,7 +3,7 @@
 // agree, at sizes of no state, at a file that cannot be read whole or at a rest of arguments, names it, and says how many agreed.
 #![tactic(auto)]
 
-ghost use Rattle.std.specs.Prelude.{IfOk, ◌≡◌, suc, ◌≤◌, ◌<◌, length};
+ghost use Rattle.std.specs.Prelude.{◌≡◌, suc, ◌≤◌, ◌<◌, length};
 ghost use Rattle.replay.specs.Replay.{ListAsks, Within};
 
 use listing::Fed;
@@ -205,24 +205,21 @@ fn load<R: Read>(from: &mut R, buf: &mut [u8]) -> Loaded
 }
 
 // Reads the file that argument `i` names; not whole where it cannot be opened or read, or is longer than the buffer.
-fn read_file(rt: HostRuntime, i: usize, buf: &mut [u8]) -> io::Result<Loaded>
-    ensures { IfOk result (λ l. Within buf.new l.length) }
+fn read_file(rt: HostRuntime, i: usize, buf: &mut [u8]) -> Loaded
+    ensures { Within buf.new result.length }
 {
     let mut word = word_buffer();
     let n = argument(rt, i, &mut word);
-    let unread = Loaded {
+    if let Ok(name) = str::from_utf8(&word[..n]) {
+        match File::open(&rt, name) {
+            Ok(mut file) => return load(&mut file, buf),
+            // what standard error does not take is not said
+            Err(e) => _ = eprintln!(rt; "{name}: {e}"),
+        }
+    }
+    Loaded {
         is_whole: false,
         length: 0,
-    };
-    let Ok(name) = str::from_utf8(&word[..n]) else {
-        return Ok(unread);
-    };
-    match File::open(&rt, name) {
-        Ok(mut file) => Ok(load(&mut file, buf)),
-        Err(e) => {
-            eprintln!(rt; "{name}: {e}")?;
-            Ok(unread)
-        }
     }
 }
 
@@ -298,8 +295,8 @@ fn replay_list(rt: HostRuntime, i: usize) -> io::Result<bool>
     let mut input = big_buffer();
     let mut kept = big_buffer();
     let n = argument(rt, i, &mut sizes);
-    let steps = read_file(rt, i + 1, &mut input)?;
-    let lines = read_file(rt, i + 2, &mut kept)?;
+    let steps = read_file(rt, i + 1, &mut input);
+    let lines = read_file(rt, i + 2, &mut kept);
     if !open(&mut state, &sizes[..n]) {
         say_unmade(rt, i)?;
         return Ok(false);
