@@ -15,10 +15,11 @@ command -v rt >/dev/null 2>&1 || fail "the toolchain's command rt is not install
 work=$(mktemp -d)
 trap 'rm -rf "$work"' EXIT
 mkdir -p "$work/crates/listings/src" "$work/crates/listings/specs"
-git init -q "$work"
 for crate in memory clock machine; do
-  cp -r "$top/crates/$crate" "$work/crates/$crate"
-  rm -rf "$work/crates/$crate/must-fail"
+  mkdir "$work/crates/$crate"
+  for part in src specs proofs; do
+    [ ! -d "$top/crates/$crate/$part" ] || cp -r "$top/crates/$crate/$part" "$work/crates/$crate/"
+  done
   grep "^$crate:" "$top/crates.txt" >>"$work/crates.txt"
 done
 echo "listings: machine" >>"$work/crates.txt"
@@ -34,10 +35,8 @@ upto() { [[ $1 =~ ^[1-9][0-9]{0,9}$ ]] && (($1 <= $2)); }
 # a module's lines before its theorems
 begin_module() {
   cat >"$specs/$1.antt" <<'END'
-use mathlib.Core.Path.{_≡_, refl}
-use mathlib.Core.List.{List, [], _∷_}
-use Prim.Native.Nat.{ℕ}
-use Rattle·machine.specs.Listing.{listing, listing_at}
+use Rattle.std.specs.Prelude.{◌≡◌, refl, List, [], ◌∷◌, ℕ}
+use Rattle.machine.specs.Listing.{listing, listing_at}
 END
   echo "pub mod $1" >>"$specs/Lib.antt"
 }
@@ -79,15 +78,20 @@ while [ $# -gt 0 ]; do
   shift 2
 done
 
-if (cd "$work" && RT_CUT=0 rt check listings) >"$work/out" 2>&1; then
+if (cd "$work/crates/listings" && rt check) >"$work/out" 2>&1; then
   echo "definition: $count lists, $steps steps: each listing is what the definition computes"
   exit 0
 fi
-if grep -q 'no verdict' "$work/out"; then
-  fail "the checker gave no verdict, as where one step fires too many timers: $(grep -m1 -e 'step limit' -e 'no verdict' "$work/out")"
-fi
-wrong=$(grep -o 'error: `list-[0-9]*`' "$work/out" | grep -o '[0-9]*' | sort -nu) || true
-[ -n "$wrong" ] || fail "the definition itself is not accepted (rt check machine says more): $(grep -m1 error "$work/out" || true)"
+
+# the numbers of the lists that the checker's errors name, in these lines of what it says
+refused() { sed -n "$1 s/.*error: \`list-\([0-9]*\)\`.*/\1/p" "$work/out" | sort -nu; }
+
+undecided=$(refused '/step limit/')
+wrong=$(refused '/step limit/!')
+[ -n "$undecided$wrong" ] || fail "the definition itself is not accepted (rt check in crates/machine says more): $(grep -m1 error "$work/out" || true)"
+for i in $undecided; do
+  echo "definition: the checker gave no verdict on the listing of ${names[$i]}, as where one step fires too many timers" >&2
+done
 for i in $wrong; do
   echo "definition: the listing of ${names[$i]} is not what the definition computes" >&2
 done
