@@ -13,10 +13,8 @@ cd "$top"
 
 work=target/bench-steps
 mkdir -p "$work"
-for crate in step run make verify; do
-  rt staticlib $crate >"$work/log" 2>&1 || { tail -n 20 "$work/log" >&2; fail "no static library of $crate"; }
-done
-rt check steps >"$work/log" 2>&1 || { tail -n 20 "$work/log" >&2; fail "steps is not proved"; }
+./archives.sh step run make verify
+./programs.sh steps
 for program in oracle differential; do
   (cd $program && cargo build --quiet --release --offline) || fail "$program does not build"
 done
@@ -29,6 +27,6 @@ echo "$lines lines, $(wc -c <"$work/input") bytes; seconds:"
 TIMEFORMAT=%R
 timed() { { time "$1" <"$work/input" >"$work/$2"; } 2>&1; }
 for turn in 1 2 3; do
-  echo "steps $(timed target/bin/steps ours), oracle $(timed oracle/target/release/oracle theirs)"
+  echo "steps $(timed crates/steps/out/steps ours), oracle $(timed oracle/target/release/oracle theirs)"
 done
 cmp "$work/ours" "$work/theirs" || fail "the listings differ"
