@@ -1,5 +1,5 @@
 #!/usr/bin/env bash
-# test.sh: everything that must hold, ending at the first fault. Its last command is `rt ci`, whose last line is 'N passed, 0 failed'.
+# test.sh: everything that must hold, ending at the first fault. What it prints last is the last line of `rt ci`, 'N passed, 0 failed'.
 #   1. on each fixed list in lists/ the definition computes the kept listing, and every answer and number arises in one of them;
 #   2. demand 3, as it is stated, does not hold of wrong machines;
 #   3. the operations on the lent state do in small scenarios what 01 says, interpreted and compiled;

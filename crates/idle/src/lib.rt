@@ -11,8 +11,8 @@ use state::{Index, Sizes};
 
 // Has record `i`, where it is free, no neighbours in age and no exits?
 fn record_ok(s: &[u8], z: Sizes, i: Index) -> bool
-    requires fact_1 { Whole z s.now }
-    requires fact_2 { i < z.processes }
+    requires formed { Whole z s.now }
+    requires index { i < z.processes }
     ensures { Decides result (RecordIdle (mem_in z s.now) i) }
 {
     let pid = state::get64(s, z, state::PROCESS, state::PID, i);
@@ -56,8 +56,8 @@ fn records_ok(s: &[u8], z: Sizes) -> bool
 
 // Has cell `c`, where it is free, no link?
 fn cell_ok(s: &[u8], z: Sizes, c: Index) -> bool
-    requires fact_1 { Whole z s.now }
-    requires fact_2 { c < z.cells }
+    requires formed { Whole z s.now }
+    requires index { c < z.cells }
     ensures { Decides result (CellIdle (mem_in z s.now) c) }
 {
     let owner = state::get16(s, z, state::CELL, state::OWNER, c);
@@ -89,8 +89,8 @@ fn cells_ok(s: &[u8], z: Sizes) -> bool
 
 // Has timer `t`, where it is off the queue, no link?
 fn timer_ok(s: &[u8], z: Sizes, t: Index) -> bool
-    requires fact_1 { Whole z s.now }
-    requires fact_2 { t < z.timers + z.processes }
+    requires formed { Whole z s.now }
+    requires index { t < z.timers + z.processes }
     ensures { Decides result (TimerIdle (mem_in z s.now) t) }
 {
     let queued = state::get8(s, z, state::TIMER, state::IS_QUEUED, t);

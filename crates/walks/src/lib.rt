@@ -124,8 +124,8 @@ fn tick_ok(s: &[u8], z: Sizes) -> bool
 
 // Is kernel timer `t` in order?
 fn kernel_ok(s: &[u8], z: Sizes, t: Index) -> bool
-    requires fact_1 { Whole z s.now }
-    requires fact_2 { t < z.timers }
+    requires formed { Whole z s.now }
+    requires index { t < z.timers }
     ensures { Decides result (TimerOk (sizes_in z) (mem_in z s.now) t) }
 {
     let hz = z.hz;
@@ -143,8 +143,8 @@ fn kernel_ok(s: &[u8], z: Sizes, t: Index) -> bool
 
 // Is `t`, a process's own timer, in order: queued only while the process is in a `tsleep`?
 fn own_ok(s: &[u8], z: Sizes, t: Index) -> bool
-    requires fact_1 { Whole z s.now }
-    requires fact_2 { (z.timers ≤ t) × (t < z.timers + z.processes) }
+    requires formed { Whole z s.now }
+    requires index { (z.timers ≤ t) × (t < z.timers + z.processes) }
     ensures { Decides result (TimerOk (sizes_in z) (mem_in z s.now) t) }
 {
     let i = t - z.timers;
@@ -165,7 +165,8 @@ fn own_ok(s: &[u8], z: Sizes, t: Index) -> bool
 
 // Is timer `t` in order?
 pub fn timer_ok(s: &[u8], z: Sizes, t: Index) -> bool
-    requires { (Whole z s.now) × (t < z.timers + z.processes) }
+    requires formed { Whole z s.now }
+    requires index { t < z.timers + z.processes }
     ensures { Decides result (TimerOk (sizes_in z) (mem_in z s.now) t) }
 {
     let k = z.timers;
@@ -222,8 +223,8 @@ pub fn timer_queue_ok(s: &[u8], z: Sizes) -> Counted
 
 // Are the exits of record `i` as many cells as it says, each of which names it as its owner?
 pub fn exits_ok(s: &[u8], z: Sizes, i: Index) -> bool
-    requires fact_1 { Whole z s.now }
-    requires fact_2 { i < z.processes }
+    requires formed { Whole z s.now }
+    requires index { i < z.processes }
     ensures { Decides result (ExitsOk (sizes_in z) (mem_in z s.now) i) }
 {
     let me = i + 1;
@@ -249,8 +250,8 @@ pub fn exits_ok(s: &[u8], z: Sizes, i: Index) -> bool
 
 // The exits of record `i`, where it is used.
 fn exits_of(s: &[u8], z: Sizes, i: Index) -> Summed
-    requires fact_1 { Whole z s.now }
-    requires fact_2 { i < z.processes }
+    requires formed { Whole z s.now }
+    requires index { i < z.processes }
     ensures { ExitsHere z s.now i result.ok result.count }
 {
     let p = state::get64(s, z, state::PROCESS, state::PID, i);
