@@ -5,14 +5,14 @@ Run at the top of the repository. Definitions, fields, constructors and variable
 Of a law whose name has dashes, a dash stays where it joins two names of functions, definitions, fields or constructors (`get-put`), and a
 plain word hangs on by `_` (`added_after`); a field's name has no dash. A law that port.py gave a capital because its first word is a type's name too is in small
 letters, as the others. A name that would meet another that stands, gets an ending: `_lem` for a law, a word of OTHERS else.
-Names of Rust functions, of types and modules, texts in quotes, and what Rattle makes (`c.x`, `tie.x`) stay.
+Names of Rust functions, of types and modules, texts in quotes, and what Rattle makes (`c.x`, `tie.x`) stay. Comments, the pages, the edits and the Rust
+programs that name the state's fields follow.
 With --check nothing is written: the table of names is printed."""
 
 import collections
 import glob
 import os
 import re
-import subprocess
 import sys
 
 TOP = os.path.realpath(os.path.join(os.path.dirname(os.path.realpath(__file__)), ".."))
@@ -22,8 +22,22 @@ MADE = ("c", "w", "l", "tie", "goal")  # heads of what Rattle makes: what stands
 COMMENT = re.compile(r'(?<![^\s(){}.;,@"«»])--[^\n]*')
 DECLARES = re.compile(r"^((?:(?:pub|abbrev|unfoldable|pattern|opaque|axiom) )*)(" + WORD + r")(?: \{[^{}]*\})*\s*(:(?=\s|$).*|$)")
 INNER = re.compile(r"^\s+(?:pub )?((?:" + WORD + r" )*" + WORD + r") :(?=\s)")
-# Laws whose names port.py spelled so that a definition's would meet them, and a field whose namesake is another record's.
-OTHERS = {"above_before": "above_before_lem", "cell_in": "cell_in_lem", "in_use": "in_use_lem", "quantumEnd": "quantum_end", "inUse": "in_use"}
+# Laws whose names port.py spelled so that a definition's would meet them; a field whose namesake is another record's; laws that port.py gave a
+# capital; and laws of the list that is `get_or` today.
+OTHERS = {
+    "above_before": "above_before_lem",
+    "cell_in": "cell_in_lem",
+    "in_use": "in_use_lem",
+    "quantumEnd": "quantum_end",
+    "inUse": "in_use",
+    "Return-asks": "return_asks",
+    "Pushed-none": "pushed_none",
+    "Placed-same": "placed_same",
+    "Did-then": "did_then",
+    "get_d_set": "get_or-set",
+    "get_d_set-kept": "get_or-set_kept",
+    "get_d_past": "get_or-past",
+}
 
 
 def read(path):
@@ -214,11 +228,18 @@ def main():
         return "".join(out) + turn(text[at:])
 
     bare = re.compile(r"(?<![\w'-])(" + "|".join(sorted(map(re.escape, camel), key=len, reverse=True)) + r")(?![\w'-])")
+    today = {table.get(n, n) for n in set(tops) | fields | inner}
+
+    def by_port(m):
+        """A name that port.py turned in the code."""
+        underscores = snake(m[0]).replace("-", "_")
+        return underscores if snake(m[0]) not in today and underscores in today else m[0]
 
     def prose(text):
         """A comment or a page: names in backquotes, and names in lowerCamel anywhere."""
-        text = re.sub(r"`[^`\n]+`", lambda m: "`" + turn(m[0][1:-1]) + "`", text)
-        return bare.sub(lambda m: table.get(m[0], m[0]), text)
+        text = re.sub(r"`[^`\n]+`", lambda m: "`" + re.sub(r"(?<![\w./])[a-z][\w']*(?:-[\w']+)+(?![\w./])", by_port, turn(m[0][1:-1])) + "`", text)
+        text = bare.sub(lambda m: table.get(m[0], m[0]), text)
+        return re.sub(r"(?<![\w:.])[a-z]+[A-Z][A-Za-z]*(?![\w(])", by_port, text)
 
     skip = re.compile(COMMENT.pattern + "|" + quoted.pattern)
     for f in ANTT:
@@ -237,7 +258,8 @@ def main():
         old = read(f)
         new = pieces(old, re.compile(r"(?m)^(?:#|--)[^\n]*|" + quoted.pattern), lambda s: prose(s) if s[0] in "#-" else s)
         write(f, old, new)
-    for f in tree("README.md", "docs/*.md", "definition/*.sh", "trials/**/*.txt", "trials/*.sh", "bench/*"):
+    pages = ["README.md", "docs/*.md", "definition/*.sh", "trials/**/*.txt", "trials/*.sh", "bench/*", "outside/README.md", "outside/src/*.rs", "differential/src/*.rs"]
+    for f in tree(*pages):
         old = read(f)
         write(f, old, prose(old))
 

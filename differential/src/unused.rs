@@ -8,7 +8,7 @@ use std::ops::Range;
 /// Bytes of a name, and the most of a message.
 const NAME: usize = 28;
 const MESSAGE: usize = 127;
-/// Of `stateOf` and `resumeKind`.
+/// Of `state_of` and `resume_kind`.
 const READY: u64 = 2;
 const ASLEEP: u64 = 3;
 const SLEEP: u64 = 1;

@@ -15,7 +15,7 @@ use std::iter::successors;
 /// What is compared: its name, and a number where there are several.
 type Part = (&'static str, usize);
 
-/// Of `stateOf` and `resumeKind`: who has both sleeps on its own waitr.
+/// Of `state_of` and `resume_kind`: who has both sleeps on its own waitr.
 const ASLEEP: u64 = 3;
 const WAIT: u64 = 4;
 const MESSAGE_MAX: usize = 127;

@@ -22,8 +22,8 @@ const RULES: [Rule; 40] = [
     rule("rule 3: run queue", run_queue),
     rule("rule 3: lock queues", lock_queues),
     rule("rule 3: timer queue", timer_queue),
-    rule("rule 3: isQueued", is_queued),
-    rule("rule 3: asleepCount", asleep_count),
+    rule("rule 3: is_queued", is_queued),
+    rule("rule 3: asleep_count", asleep_count),
     rule("rule 4: tags", tags),
     rule("rule 5: chains of exits", chains_of_exits),
     rule("rule 5: owners", owners),
@@ -32,13 +32,13 @@ const RULES: [Rule; 40] = [
     rule("rule 7: parents", parents),
     rule("rule 7: no parent", no_parent),
     rule("rule 8: record words", record_words),
-    rule("rule 8: fullRecords", full_records),
+    rule("rule 8: full_records", full_records),
     rule("rule 8: cell words", cell_words),
     rule("rule 8: full words", full_words),
-    rule("rule 8: fullCells", full_cells),
+    rule("rule 8: full_cells", full_cells),
     rule("rule 11: next", next_of_the_unqueued),
-    rule("rule 11: resumeObject", object_of_no_call),
-    rule("rule 11: resumeCondition", condition_of_no_sleep),
+    rule("rule 11: resume_object", object_of_no_call),
+    rule("rule 11: resume_condition", condition_of_no_sleep),
     rule("rule 12: free records", free_records),
     rule("rule 12: free cells", free_cells),
     rule("rule 12: timers not queued", timers_not_queued),
@@ -355,7 +355,7 @@ fn timer_queue(s: &State) -> bool {
     s.timers.ends
 }
 
-/// Rule 3: "`isQueued` is 1 exactly for the timers in the queue."
+/// Rule 3: "`is_queued` is 1 exactly for the timers in the queue."
 fn is_queued(s: &State) -> bool {
     let mut found = vec![false; s.z.k + s.z.p];
     for &t in &s.timers.members {
@@ -364,13 +364,13 @@ fn is_queued(s: &State) -> bool {
     (0..found.len()).all(|t| s.is_timer_queued(t) == found[t])
 }
 
-/// Rule 3: "`asleepCount` is the number asleep."
+/// Rule 3: "`asleep_count` is the number asleep."
 fn asleep_count(s: &State) -> bool {
     let asleep = |places: &&Vec<Place>| places.iter().any(|place| place.is_asleep());
     s.kept.header(ASLEEP_COUNT) == s.places.iter().filter(asleep).count() as u64
 }
 
-/// Rule 4: "Each record's `stateOf` is where it is found: 1 for the one that
+/// Rule 4: "Each record's `state_of` is where it is found: 1 for the one that
 /// `up` links, 2 in the run queue, 3 on a Rendez or in a lock's queue; 0
 /// exactly where the pid is 0."
 fn tags(s: &State) -> bool {
@@ -416,7 +416,7 @@ fn pids_rise(s: &State) -> bool {
     s.ages.members.windows(2).all(|pair| s.pids[pair[0]] < s.pids[pair[1]])
 }
 
-/// Rule 7: "Where the parent of a process lives, `parentAt` links its record."
+/// Rule 7: "Where the parent of a process lives, `parent_at` links its record."
 fn parents(s: &State) -> bool {
     s.living().filter(|&i| s.parents[i] != 0).all(|i| {
         let at = s.kept.link(PARENT_AT, i);
@@ -442,7 +442,7 @@ fn record_words(s: &State) -> bool {
     (0..64).all(|w| s.kept.get(USED_RECORDS, w) == word_of(w, s.z.p, used))
 }
 
-/// Rule 8: "Bit w of `fullRecords` is 1 exactly where record word w is full."
+/// Rule 8: "Bit w of `full_records` is 1 exactly where record word w is full."
 fn full_records(s: &State) -> bool {
     let full = |w: usize| s.kept.get(USED_RECORDS, w) == u64::MAX;
     s.kept.header(FULL_RECORDS) == word_of(0, 64, full)
@@ -462,27 +462,27 @@ fn full_words(s: &State) -> bool {
     (0..16).all(|v| s.kept.get(FULL_CELL_WORDS, v) == word_of(v, 1_016, full))
 }
 
-/// Rule 8: "and bit v of `fullCells` exactly where full word v is. Bits for which
+/// Rule 8: "and bit v of `full_cells` exactly where full word v is. Bits for which
 /// there is no word are 0."
 fn full_cells(s: &State) -> bool {
     let full = |v: usize| s.kept.get(FULL_CELL_WORDS, v) == u64::MAX;
     s.kept.header(FULL_CELLS) == word_of(0, 16, full)
 }
 
-/// Rule 11: "`next` is 0 unless the process is ready (`stateOf`
-/// 2) or asleep waiting for a lock (`stateOf` 3 and `resumeKind` 3)."
+/// Rule 11: "`next` is 0 unless the process is ready (`state_of`
+/// 2) or asleep waiting for a lock (`state_of` 3 and `resume_kind` 3)."
 fn next_of_the_unqueued(s: &State) -> bool {
     let is_queued = |i| s.tag(i) == READY || (s.tag(i) == ASLEEP && s.call(i) == QLOCK);
     (0..s.z.p).all(|i| is_queued(i) || s.kept.get(NEXT, i) == 0)
 }
 
-/// Rule 11: "`resumeObject` is 0 unless the call is a `sleep`, a `tsleep` or a
-/// `qlock` (`resumeKind` 1, 2 or 3)."
+/// Rule 11: "`resume_object` is 0 unless the call is a `sleep`, a `tsleep` or a
+/// `qlock` (`resume_kind` 1, 2 or 3)."
 fn object_of_no_call(s: &State) -> bool {
     s.living().all(|i| matches!(s.call(i), SLEEP | TSLEEP | QLOCK) || s.object(i) == 0)
 }
 
-/// Rule 11: "`resumeCondition` is 0 unless it is a `sleep` or a `tsleep` (1 or 2)."
+/// Rule 11: "`resume_condition` is 0 unless it is a `sleep` or a `tsleep` (1 or 2)."
 fn condition_of_no_sleep(s: &State) -> bool {
     s.living().all(|i| matches!(s.call(i), SLEEP | TSLEEP) || s.kept.get(RESUME_CONDITION, i) == 0)
 }
@@ -493,12 +493,12 @@ fn free_records(s: &State) -> bool {
     (0..s.z.p).all(|i| s.used(i) || is_vacant(i))
 }
 
-/// Rule 12: "in a free cell `cellNext` is 0."
+/// Rule 12: "in a free cell `cell_next` is 0."
 fn free_cells(s: &State) -> bool {
     (0..s.z.c).all(|c| s.kept.link(OWNER, c).is_some() || s.kept.get(CELL_NEXT, c) == 0)
 }
 
-/// Rule 12: "`timerNext` of a timer that is not queued is 0."
+/// Rule 12: "`timer_next` of a timer that is not queued is 0."
 fn timers_not_queued(s: &State) -> bool {
     (0..s.z.k + s.z.p).all(|t| s.is_timer_queued(t) || s.kept.get(TIMER_NEXT, t) == 0)
 }

@@ -27,7 +27,7 @@ links z =
     ∷ column 1 30 2 z.processes z.processes
     ∷ []
 
--- exits, nexits, stateOf, resume_kind
+-- exits, nexits, state_of, resume_kind
 abbrev pub states : Sizes → List Column
 states z =
     column 1 34 2 z.processes z.cells

@@ -14,7 +14,7 @@ use Rattle.machine.specs.Table.{one_of, refusal, open_table}
 use Rattle.machine.specs.Perform.{current, made, start_of, rfork_of}
 use Rattle.history.proofs.Sound.{Sound}
 use Rattle.history.specs.History.{Says, silent, says_of, open_history}
-use Rattle.history.proofs.Lists.{get_d_set, get_d_set-kept}
+use Rattle.history.proofs.Lists.{get_or-set, get_or-set_kept}
 use Rattle.history.proofs.View.{View, view, made_v, nobody, Change, wakes, makes}
 use Rattle.history.proofs.Facts.{lives_of, none_of, places-at_most, up-count, free_record_lem, not_met}
 use Rattle.history.proofs.Waking.{view_ext, view-kept}
@@ -56,10 +56,10 @@ made-view text parent m i e =
     let p : Process = record { pid = m.next_pid; name = text; parent = parent; nchild = 0; exits = []; quantum_end = 0; resume = nothing; on_waitr = false } in
     subst (λ (k : ℕ). view (made text parent m) ≡ made_v k m.next_pid (view m)) same
     (view_ext refl refl (λ r. refl) (λ q. refl)
-    (λ k. get_d_set (λ (x : Process). x.on_waitr) m.processes j p free k there)
-    (λ k. get_d_set (λ (x : Process). x.pid) m.processes j p free k there)
-    (λ k. get_d_set (λ (x : Process). x.resume) m.processes j p free k there)
-    (λ k. get_d_set (λ (x : Process). x.quantum_end) m.processes j p free k there)
+    (λ k. get_or-set (λ (x : Process). x.on_waitr) m.processes j p free k there)
+    (λ k. get_or-set (λ (x : Process). x.pid) m.processes j p free k there)
+    (λ k. get_or-set (λ (x : Process). x.resume) m.processes j p free k there)
+    (λ k. get_or-set (λ (x : Process). x.quantum_end) m.processes j p free k there)
     refl refl refl refl refl)
 
 is_some : (o : Option ℕ) → is_none o ≡ false → (i : ℕ) × (o ≡ some i)
@@ -72,7 +72,7 @@ unfolding open_machine open_update free_record
 free-kept i p m e =
     ap (λ (n : ℕ). highest_below n (λ k. not (living (process (with_process i p m) k)))) (length-set m.processes i p)
     ∙ ap (highest_below (length m.processes))
-    (λ t k. not (not (eqb (get_d_set-kept (λ (x : Process). x.pid) m.processes i p free k e t) 0)))
+    (λ t k. not (not (eqb (get_or-set_kept (λ (x : Process). x.pid) m.processes i p free k e t) 0)))
 
 -- `start`, and `rfork` with RFPROC: n is a machine that demand 3 cannot tell from m
 made_changes : (m n : Machine) → Sound m → (says : Says) (text : List ℕ) (parent : ℕ)

@@ -15,7 +15,7 @@ use Rattle.machine.specs.Perform.{current, wakeup_of, qlock_of, canqlock_of, qun
 use Rattle.machine.specs.StepOf.{left_by, refusing, step_of, outcome_of}
 use Rattle.history.proofs.Sound.{Sound}
 use Rattle.history.specs.History.{Input, gives, silent, says_of, open_history}
-use Rattle.history.proofs.Lists.{get_d_set, get_d_set-kept, and_true}
+use Rattle.history.proofs.Lists.{get_or-set, get_or-set_kept, and_true}
 use Rattle.history.proofs.View.{View, view, waits_v, queues_v, gone_v, Wakes, nobody, Change, wakes, waits, queues, leaves, spends}
 use Rattle.history.proofs.Facts.{has_record, not_met}
 use Rattle.history.proofs.Waking.{view_ext, wake-wakes, hand_over-wakes, tell_parent-wakes, interrupt-wakes}
@@ -36,7 +36,7 @@ taken-view : (Q : ℕ) (m : Machine) → view (with_lock Q (record { held = true
 unfolding open_machine open_update
 taken-view Q m =
     view_ext refl refl (λ r. refl)
-    (λ k. get_d_set-kept (λ (x : Lock). x.waiters) m.locks Q (record { held = true; waiters = (lock m Q).waiters }) (record { held = false; waiters = [] }) k refl)
+    (λ k. get_or-set_kept (λ (x : Lock). x.waiters) m.locks Q (record { held = true; waiters = (lock m Q).waiters }) (record { held = false; waiters = [] }) k refl)
     (λ j. refl) (λ j. refl) (λ j. refl) (λ j. refl) refl refl (length-set m.locks Q (record { held = true; waiters = (lock m Q).waiters })) refl refl
 
 canqlock_changes : (m : Machine) (k : Bool) (Q : ℕ) → Changes m (step k (canqlock Q)) (canqlock_of Q m)
@@ -53,11 +53,11 @@ unfolding open_machine open_update open_places
 queue_on-view i q m there room =
     let p : Process = with_resume (in_qlock q) (process m i) in
     view_ext refl refl (λ r. refl)
-    (λ k. get_d_set (λ (x : Lock). x.waiters) m.locks q (record { held = true; waiters = (lock m q).waiters ++ i ∷ [] }) (record { held = false; waiters = [] }) k room)
-    (λ k. get_d_set-kept (λ (x : Process). x.on_waitr) m.processes i p free k refl)
-    (λ k. get_d_set-kept (λ (x : Process). x.pid) m.processes i p free k refl)
-    (λ k. get_d_set (λ (x : Process). x.resume) m.processes i p free k there)
-    (λ k. get_d_set-kept (λ (x : Process). x.quantum_end) m.processes i p free k refl)
+    (λ k. get_or-set (λ (x : Lock). x.waiters) m.locks q (record { held = true; waiters = (lock m q).waiters ++ i ∷ [] }) (record { held = false; waiters = [] }) k room)
+    (λ k. get_or-set_kept (λ (x : Process). x.on_waitr) m.processes i p free k refl)
+    (λ k. get_or-set_kept (λ (x : Process). x.pid) m.processes i p free k refl)
+    (λ k. get_or-set (λ (x : Process). x.resume) m.processes i p free k there)
+    (λ k. get_or-set_kept (λ (x : Process). x.quantum_end) m.processes i p free k refl)
     refl refl (length-set m.locks q (record { held = true; waiters = (lock m q).waiters ++ i ∷ [] })) refl refl
 
 qlock-facts : (m : Machine) (k : Bool) (Q : ℕ) → refusal m (step k (qlock Q)) ≡ none → (lock m Q).held ≡ true → (Q < m.sizes.locks) × (is_none m.up ≡ false)
@@ -92,10 +92,10 @@ gone-view : (i : ℕ) (m : Machine) → i < length m.processes → view (without
 unfolding open_machine open_update without
 gone-view i m there =
     view_ext refl refl (λ r. refl) (λ q. refl)
-    (λ k. get_d_set (λ (x : Process). x.on_waitr) m.processes i free free k there)
-    (λ k. get_d_set (λ (x : Process). x.pid) m.processes i free free k there)
-    (λ k. get_d_set (λ (x : Process). x.resume) m.processes i free free k there)
-    (λ k. get_d_set (λ (x : Process). x.quantum_end) m.processes i free free k there)
+    (λ k. get_or-set (λ (x : Process). x.on_waitr) m.processes i free free k there)
+    (λ k. get_or-set (λ (x : Process). x.pid) m.processes i free free k there)
+    (λ k. get_or-set (λ (x : Process). x.resume) m.processes i free free k there)
+    (λ k. get_or-set (λ (x : Process). x.quantum_end) m.processes i free free k there)
     refl refl refl refl refl
 
 exit-up : (m : Machine) (k : Bool) (BYTES : List ℕ) → refusal m (step k (exit BYTES)) ≡ none → is_none m.up ≡ false
@@ -121,10 +121,10 @@ unfolding open_machine open_update open_places
 waitr-view i m there =
     let p : Process = with_on_waitr true (with_resume in_wait (process m i)) in
     view_ext refl refl (λ r. refl) (λ q. refl)
-    (λ k. get_d_set (λ (x : Process). x.on_waitr) m.processes i p free k there)
-    (λ k. get_d_set-kept (λ (x : Process). x.pid) m.processes i p free k refl)
-    (λ k. get_d_set (λ (x : Process). x.resume) m.processes i p free k there)
-    (λ k. get_d_set-kept (λ (x : Process). x.quantum_end) m.processes i p free k refl)
+    (λ k. get_or-set (λ (x : Process). x.on_waitr) m.processes i p free k there)
+    (λ k. get_or-set_kept (λ (x : Process). x.pid) m.processes i p free k refl)
+    (λ k. get_or-set (λ (x : Process). x.resume) m.processes i p free k there)
+    (λ k. get_or-set_kept (λ (x : Process). x.quantum_end) m.processes i p free k refl)
     refl refl refl refl refl
 
 wait_changes : (m : Machine) → Sound m → (k : Bool) → refusal m (step k wait) ≡ none → Changes m (step k wait) (wait_of m)

@@ -40,16 +40,16 @@ module _ {A : Type 0} where
   map-append {B = B} f (x ∷ xs) ys = ap (λ (r : List B). f x ∷ r) (map-append f xs ys)
 
   -- a store that f cannot see
-  pub get_d_set-kept : {B : Type 0} (f : A → B) (l : List A) (i : ℕ) (a d : A) (j : ℕ) → f a ≡ f (get_or l i d) → f (get_or (set l i a) j d) ≡ f (get_or l j d)
-  get_d_set-kept f [] i a d j h = refl
-  get_d_set-kept f (x ∷ xs) zero a d zero h = h
-  get_d_set-kept f (x ∷ xs) zero a d (suc j) h = refl
-  get_d_set-kept f (x ∷ xs) (suc i) a d zero h = refl
-  get_d_set-kept f (x ∷ xs) (suc i) a d (suc j) h = get_d_set-kept f xs i a d j h
+  pub get_or-set_kept : {B : Type 0} (f : A → B) (l : List A) (i : ℕ) (a d : A) (j : ℕ) → f a ≡ f (get_or l i d) → f (get_or (set l i a) j d) ≡ f (get_or l j d)
+  get_or-set_kept f [] i a d j h = refl
+  get_or-set_kept f (x ∷ xs) zero a d zero h = h
+  get_or-set_kept f (x ∷ xs) zero a d (suc j) h = refl
+  get_or-set_kept f (x ∷ xs) (suc i) a d zero h = refl
+  get_or-set_kept f (x ∷ xs) (suc i) a d (suc j) h = get_or-set_kept f xs i a d j h
 
 -- a store in a list, read
-pub get_d_set : {A B : Type 0} (f : A → B) (l : List A) (i : ℕ) (a d : A) (j : ℕ) → i < length l → f (get_or (set l i a) j d) ≡ at i (f a) (λ (k : ℕ). f (get_or l k d)) j
-get_d_set {B = B} f l i a d j h =
+pub get_or-set : {A B : Type 0} (f : A → B) (l : List A) (i : ℕ) (a d : A) (j : ℕ) → i < length l → f (get_or (set l i a) j d) ≡ at i (f a) (λ (k : ℕ). f (get_or l k d)) j
+get_or-set {B = B} f l i a d j h =
     at_cases (λ (b : B). f (get_or (set l i a) j d) ≡ b) i (f a) (λ (k : ℕ). f (get_or l k d)) j
     (λ e. ap f (ap (λ (k : ℕ). get_or (set l i a) k d) (sym e) ∙ get_or-set_same l i a d h))
     (λ n. ap f (get_or-set_other l i j a d (λ e. n (sym e))))

@@ -17,7 +17,7 @@ use Rattle.machine.specs.Perform.{take_exit, newest, runs, checks_again, tsleep_
 use Rattle.machine.specs.Good.{SleepsOn}
 use Rattle.history.proofs.Sound.{CallFits, Sound}
 use Rattle.history.specs.History.{Says, silent, says_answer, says_of, at, open_history}
-use Rattle.history.proofs.Lists.{get_d_set, get_d_set-kept}
+use Rattle.history.proofs.Lists.{get_or-set, get_or-set_kept}
 use Rattle.history.proofs.View.{View, view, nobody, Change, wakes, dispatches, dozes, waits_on}
 use Rattle.history.proofs.Facts.{lives_of, head-count, has_record, not_met}
 use Rattle.history.proofs.Waking.{view_ext, view-kept}
@@ -35,10 +35,10 @@ unfolding open_machine open_update
 off-view i rest m there =
     let p : Process = with_quantum_end (m.ticks + 10) (process m i) in
     view_ext refl refl (λ r. refl) (λ q. refl)
-    (λ k. get_d_set-kept (λ (x : Process). x.on_waitr) m.processes i p free k refl)
-    (λ k. get_d_set-kept (λ (x : Process). x.pid) m.processes i p free k refl)
-    (λ k. get_d_set-kept (λ (x : Process). x.resume) m.processes i p free k refl)
-    (λ k. get_d_set (λ (x : Process). x.quantum_end) m.processes i p free k there)
+    (λ k. get_or-set_kept (λ (x : Process). x.on_waitr) m.processes i p free k refl)
+    (λ k. get_or-set_kept (λ (x : Process). x.pid) m.processes i p free k refl)
+    (λ k. get_or-set_kept (λ (x : Process). x.resume) m.processes i p free k refl)
+    (λ k. get_or-set (λ (x : Process). x.quantum_end) m.processes i p free k there)
     refl refl refl refl refl
 
 -- it runs
@@ -50,10 +50,10 @@ unfolding open_machine open_update
 up-view i m there =
     let p : Process = with_resume nothing (process m i) in
     view_ext refl refl (λ r. refl) (λ q. refl)
-    (λ k. get_d_set-kept (λ (x : Process). x.on_waitr) m.processes i p free k refl)
-    (λ k. get_d_set-kept (λ (x : Process). x.pid) m.processes i p free k refl)
-    (λ k. get_d_set (λ (x : Process). x.resume) m.processes i p free k there)
-    (λ k. get_d_set-kept (λ (x : Process). x.quantum_end) m.processes i p free k refl)
+    (λ k. get_or-set_kept (λ (x : Process). x.on_waitr) m.processes i p free k refl)
+    (λ k. get_or-set_kept (λ (x : Process). x.pid) m.processes i p free k refl)
+    (λ k. get_or-set (λ (x : Process). x.resume) m.processes i p free k there)
+    (λ k. get_or-set_kept (λ (x : Process). x.quantum_end) m.processes i p free k refl)
     refl refl refl refl refl
 
 -- it sleeps again
@@ -64,11 +64,11 @@ again-view : (i r : ℕ) (m : Machine) → r < length m.sleepers → view (sleep
 unfolding open_machine open_update open_places
 again-view i r m there =
     let p : Process = with_resume (process m i).resume (process m i) in
-    view_ext refl refl (λ k. get_d_set (λ (x : Option ℕ). x) m.sleepers r (some i) none k there) (λ q. refl)
-    (λ k. get_d_set-kept (λ (x : Process). x.on_waitr) m.processes i p free k refl)
-    (λ k. get_d_set-kept (λ (x : Process). x.pid) m.processes i p free k refl)
-    (λ k. get_d_set-kept (λ (x : Process). x.resume) m.processes i p free k refl)
-    (λ k. get_d_set-kept (λ (x : Process). x.quantum_end) m.processes i p free k refl)
+    view_ext refl refl (λ k. get_or-set (λ (x : Option ℕ). x) m.sleepers r (some i) none k there) (λ q. refl)
+    (λ k. get_or-set_kept (λ (x : Process). x.on_waitr) m.processes i p free k refl)
+    (λ k. get_or-set_kept (λ (x : Process). x.pid) m.processes i p free k refl)
+    (λ k. get_or-set_kept (λ (x : Process). x.resume) m.processes i p free k refl)
+    (λ k. get_or-set_kept (λ (x : Process). x.quantum_end) m.processes i p free k refl)
     refl (length-set m.sleepers r (some i)) refl refl refl
 
 abbrev waitr_up_v : ℕ → View → View
@@ -79,10 +79,10 @@ unfolding open_machine open_update open_places
 waitr-view i m there e =
     let p : Process = record { pid = (process m i).pid; name = (process m i).name; parent = (process m i).parent; nchild = (process m i).nchild; exits = (process m i).exits; quantum_end = (process m i).quantum_end; resume = in_wait; on_waitr = true } in
     view_ext refl refl (λ r. refl) (λ q. refl)
-    (λ k. get_d_set (λ (x : Process). x.on_waitr) m.processes i p free k there)
-    (λ k. get_d_set-kept (λ (x : Process). x.pid) m.processes i p free k refl)
-    (λ k. get_d_set-kept (λ (x : Process). x.resume) m.processes i p free k (sym e))
-    (λ k. get_d_set-kept (λ (x : Process). x.quantum_end) m.processes i p free k refl)
+    (λ k. get_or-set (λ (x : Process). x.on_waitr) m.processes i p free k there)
+    (λ k. get_or-set_kept (λ (x : Process). x.pid) m.processes i p free k refl)
+    (λ k. get_or-set_kept (λ (x : Process). x.resume) m.processes i p free k (sym e))
+    (λ k. get_or-set_kept (λ (x : Process). x.quantum_end) m.processes i p free k refl)
     refl refl refl refl refl
 
 -- the newest exit taken changes nothing that demand 3 looks at

@@ -14,7 +14,7 @@ use Rattle.machine.specs.Perform.{current, name_of, yield_of, sleep_of, tsleep_o
 use Rattle.machine.specs.Good.{SleepsOn}
 use Rattle.history.proofs.Sound.{Sound}
 use Rattle.history.specs.History.{on_rendez, Says, open_history}
-use Rattle.history.proofs.Lists.{get_d_set, get_d_set-kept, and_left, and_true}
+use Rattle.history.proofs.Lists.{get_or-set, get_or-set_kept, and_left, and_true}
 use Rattle.history.proofs.View.{View, view, sleeps_v, nobody, Change, wakes, gives_way, goes_asleep}
 use Rattle.history.proofs.Facts.{has_record, not_met}
 use Rattle.history.proofs.Waking.{view_ext, view-kept}
@@ -37,11 +37,11 @@ sleep_on-view : (i r : ℕ) (call : Resume) (m : Machine) → i < length m.proce
 unfolding open_machine open_update open_places
 sleep_on-view i r call m there room =
     let p : Process = with_resume call (process m i) in
-    view_ext refl refl (λ k. get_d_set (λ (x : Option ℕ). x) m.sleepers r (some i) none k room) (λ q. refl)
-    (λ k. get_d_set-kept (λ (x : Process). x.on_waitr) m.processes i p free k refl)
-    (λ k. get_d_set-kept (λ (x : Process). x.pid) m.processes i p free k refl)
-    (λ k. get_d_set (λ (x : Process). x.resume) m.processes i p free k there)
-    (λ k. get_d_set-kept (λ (x : Process). x.quantum_end) m.processes i p free k refl)
+    view_ext refl refl (λ k. get_or-set (λ (x : Option ℕ). x) m.sleepers r (some i) none k room) (λ q. refl)
+    (λ k. get_or-set_kept (λ (x : Process). x.on_waitr) m.processes i p free k refl)
+    (λ k. get_or-set_kept (λ (x : Process). x.pid) m.processes i p free k refl)
+    (λ k. get_or-set (λ (x : Process). x.resume) m.processes i p free k there)
+    (λ k. get_or-set_kept (λ (x : Process). x.quantum_end) m.processes i p free k refl)
     refl (length-set m.sleepers r (some i)) refl refl refl
 
 -- n is the machine once its timer is added

@@ -8,7 +8,7 @@ use Rattle.machine.specs.Update.{with_ticks, with_queued, with_process, with_nch
 use Rattle.machine.specs.Places.{Woken, ready, wake, hand_over, open_places}
 use Rattle.machine.specs.Exits.{found, has_room, wake_waitr, tell_parent}
 use Rattle.machine.specs.Timers.{Firing, twakeup, callback, period_of, readd, fire, fire_due, firings_owed, interrupt}
-use Rattle.history.proofs.Lists.{get_d_set, get_d_set-kept}
+use Rattle.history.proofs.Lists.{get_or-set, get_or-set_kept}
 use Rattle.history.proofs.View.{View, view, from_rendez_v, from_lock_v, from_waitr_v, Wakes, nobody, ticking, from_rendez, from_lock, from_waitr, ◌next◌}
 
 -- two views that agree in everything
@@ -40,10 +40,10 @@ pub view-kept : (i : ℕ) (p : Process) (m : Machine)
 unfolding open_machine open_update
 view-kept i p m a b c d =
     view_ext refl refl (λ r. refl) (λ q. refl)
-    (λ j. get_d_set-kept (λ (x : Process). x.on_waitr) m.processes i p free j a)
-    (λ j. get_d_set-kept (λ (x : Process). x.pid) m.processes i p free j b)
-    (λ j. get_d_set-kept (λ (x : Process). x.resume) m.processes i p free j c)
-    (λ j. get_d_set-kept (λ (x : Process). x.quantum_end) m.processes i p free j d)
+    (λ j. get_or-set_kept (λ (x : Process). x.on_waitr) m.processes i p free j a)
+    (λ j. get_or-set_kept (λ (x : Process). x.pid) m.processes i p free j b)
+    (λ j. get_or-set_kept (λ (x : Process). x.resume) m.processes i p free j c)
+    (λ j. get_or-set_kept (λ (x : Process). x.quantum_end) m.processes i p free j d)
     refl refl refl refl refl
 
 -- what is not the default stands in the list
@@ -68,7 +68,7 @@ wake-wakes r m = go (sleeper m r) refl
         let there : r < length m.sleepers = in_list m.sleepers r none (λ (d : sleeper m r ≡ none). let z : ◌≡◌ {A = ℕ} 0 1 = cc in omega arith) in
         let w : view (wake r m).machine ≡ from_rendez_v r i (view m) =
         rw (e, wake)
-        (view_ext refl refl (λ k. get_d_set (λ (x : Option ℕ). x) m.sleepers r none none k there) (λ q. refl) (λ j. refl) (λ j. refl) (λ j. refl) (λ j. refl) refl (length-set m.sleepers r none) refl refl refl) in
+        (view_ext refl refl (λ k. get_or-set (λ (x : Option ℕ). x) m.sleepers r none none k there) (λ q. refl) (λ j. refl) (λ j. refl) (λ j. refl) (λ j. refl) refl (length-set m.sleepers r none) refl refl refl) in
         let d : (wake r m).readied ≡ pid_of m i ∷ [] = rw (e, wake) in
         rw (w, d) (from_rendez r i there e)
 
@@ -86,14 +86,14 @@ hand_over-wakes q m = go (lock m q).waiters refl
     go [] e =
         let w : view (hand_over q m).machine ≡ view m =
         rw (e, hand_over)
-        (view_ext refl refl (λ r. refl) (λ k. get_d_set-kept ws m.locks q bare bare k (sym e)) (λ j. refl) (λ j. refl) (λ j. refl) (λ j. refl) refl refl (length-set m.locks q bare) refl refl) in
+        (view_ext refl refl (λ r. refl) (λ k. get_or-set_kept ws m.locks q bare bare k (sym e)) (λ j. refl) (λ j. refl) (λ j. refl) (λ j. refl) refl refl (length-set m.locks q bare) refl refl) in
         let d : (hand_over q m).readied ≡ [] = rw (e, hand_over) in
         rw (w, d) nobody
     go (i ∷ rest) e =
         let there : q < length m.locks = in_list m.locks q bare (λ (d : lock m q ≡ bare). let y : (lock m q).waiters ≡ [] = ap ws d in let z : ◌≡◌ {A = ℕ} 0 1 = cc in omega arith) in
         let w : view (hand_over q m).machine ≡ from_lock_v q i rest (view m) =
         rw (e, hand_over)
-        (view_ext refl refl (λ r. refl) (λ k. get_d_set ws m.locks q (record { held = true; waiters = rest }) bare k there) (λ j. refl) (λ j. refl) (λ j. refl) (λ j. refl) refl refl (length-set m.locks q (record { held = true; waiters = rest })) refl refl) in
+        (view_ext refl refl (λ r. refl) (λ k. get_or-set ws m.locks q (record { held = true; waiters = rest }) bare k there) (λ j. refl) (λ j. refl) (λ j. refl) (λ j. refl) refl refl (length-set m.locks q (record { held = true; waiters = rest })) refl refl) in
         let d : (hand_over q m).readied ≡ pid_of m i ∷ [] = rw (e, hand_over) in
         rw (w, d) (from_lock q i rest there e)
 
@@ -103,10 +103,10 @@ waitr-view j m e =
     let there : j < length m.processes = in_list m.processes j free (λ (d : process m j ≡ free). let y : (process m j).on_waitr ≡ false = ap (λ (x : Process). x.on_waitr) d in let z : ◌≡◌ {A = ℕ} 0 1 = cc in omega arith) in
     let p : Process = with_on_waitr false (process m j) in
     view_ext refl refl (λ r. refl) (λ q. refl)
-    (λ k. get_d_set (λ (x : Process). x.on_waitr) m.processes j p free k there)
-    (λ k. get_d_set-kept (λ (x : Process). x.pid) m.processes j p free k refl)
-    (λ k. get_d_set-kept (λ (x : Process). x.resume) m.processes j p free k refl)
-    (λ k. get_d_set-kept (λ (x : Process). x.quantum_end) m.processes j p free k refl)
+    (λ k. get_or-set (λ (x : Process). x.on_waitr) m.processes j p free k there)
+    (λ k. get_or-set_kept (λ (x : Process). x.pid) m.processes j p free k refl)
+    (λ k. get_or-set_kept (λ (x : Process). x.resume) m.processes j p free k refl)
+    (λ k. get_or-set_kept (λ (x : Process). x.quantum_end) m.processes j p free k refl)
     refl refl refl refl refl
 
 wake_waitr-wakes : (j : ℕ) (m : Machine) → Woke m 0 (wake_waitr j m)

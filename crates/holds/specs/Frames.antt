@@ -101,7 +101,7 @@ module _ {z : Sizes} {m m' : Memory} where
         full_cells = rw (f, g) k.full_cells;
       }
 
-  pub Placed-same
+  pub placed_same
       : (n : ℕ)
       → (pid : m' fields.pid ≡ m fields.pid)
       → (state : m' fields.state_of ≡ m fields.state_of)
@@ -120,7 +120,7 @@ module _ {z : Sizes} {m m' : Memory} where
       → Placed z m n
       → Placed z m' n
   unfolding run_list waiter_list
-  Placed-same n pid state kind object condition up next head tail sleeper lock_head lock_tail count machines p =
+  placed_same n pid state kind object condition up next head tail sleeper lock_head lock_tail count machines p =
       record {
         free = rw (pid, state) p.free;
         used = rw (pid, state) p.used;

@@ -21,8 +21,8 @@ text-length name digits status =
     length-append name (32 ∷ (digits ++ (58 ∷ 32 ∷ status))) ∙ omega (arith, length-append digits (58 ∷ 32 ∷ status))
 
 -- past the first of two lists
-get_d_past : (xs ys : List ℕ) (k : ℕ) → length xs ≤ k → get_or (xs ++ ys) k 0 ≡ get_or ys (k - length xs) 0
-get_d_past xs ys k h =
+get_or-past : (xs ys : List ℕ) (k : ℕ) → length xs ≤ k → get_or (xs ++ ys) k 0 ≡ get_or ys (k - length xs) 0
+get_or-past xs ys k h =
     let e : k ≡ length xs + (k - length xs) = omega arith in
     ap (λ (j : ℕ). get_or (xs ++ ys) j 0) e ∙ get_or-append-add xs ys (k - length xs) 0
 
@@ -41,7 +41,7 @@ at_name {name} {digits} {status} {k} h = record { byte = sym (get_or-append name
 module _ (name digits status : List ℕ) (k : ℕ) (h : length name ≤ k) where
   past-name : get_or (text name digits status) k 0 ≡ get_or (32 ∷ (digits ++ (58 ∷ 32 ∷ status))) (k - length name) 0
   unfolding text
-  past-name = get_d_past name (32 ∷ (digits ++ (58 ∷ 32 ∷ status))) k h
+  past-name = get_or-past name (32 ∷ (digits ++ (58 ∷ 32 ∷ status))) k h
 
   past_space : (k - length name ≡ 0 → ⊥) → get_or (text name digits status) k 0 ≡ get_or (digits ++ (58 ∷ 32 ∷ status)) (k - length name - 1) 0
   past_space ne =
@@ -50,7 +50,7 @@ module _ (name digits status : List ℕ) (k : ℕ) (h : length name ≤ k) where
 
   past-digits : (k - length name ≡ 0 → ⊥) → length digits ≤ k - length name - 1
       → get_or (text name digits status) k 0 ≡ get_or (58 ∷ 32 ∷ status) (k - length name - 1 - length digits) 0
-  past-digits ne l = past_space ne ∙ get_d_past digits (58 ∷ 32 ∷ status) (k - length name - 1) l
+  past-digits ne l = past_space ne ∙ get_or-past digits (58 ∷ 32 ∷ status) (k - length name - 1) l
 
   past_colon : (k - length name ≡ 0 → ⊥) → length digits ≤ k - length name - 1 → (k - length name - 1 - length digits ≡ 0 → ⊥)
       → (k - length name - 1 - length digits ≡ 1 → ⊥)

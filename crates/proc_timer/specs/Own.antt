@@ -46,12 +46,12 @@ pub record Returned (z : Sizes) (s s' : List ℕ) (i n : ℕ) : Type 0 where
 pub return_owing : {z : Sizes} {s : List ℕ} {i : ℕ} → UpAsks z s i → Owing z s
 return_owing a = record { owed = 0; holds = a.holds }
 
-pub Return-asks
+pub return_asks
     : {z : Sizes} {s s₁ : List ℕ} {i n : ℕ}
     → UpAsks z s i
     → Became z s s₁ (now_stores n) (with_last_now n (machine_in z s))
     → TimerAsks z s₁ (z.timers + i)
-Return-asks a b = record { owing = b.owing; index = omega (arith, own-low a.holds a.runs) }
+return_asks a b = record { owing = b.owing; index = omega (arith, own-low a.holds a.runs) }
 
 pub returned
     : {z : Sizes} {s s₁ s₂ : List ℕ} {i n : ℕ}

@@ -117,13 +117,13 @@ push-reach a ne p =
     }
 
 -- What the code shows at each return.
-pub Pushed-none
+pub pushed_none
     : {z : Sizes} {s s' : List ℕ} {q : RunQueue} {i : ℕ}
     → PushAsks z s q i
     → q.tail ≡ 0
     → PutIn z s s' (slot 1 24 2) i 0
     → PushDone z s s' q i (record { head = i + 1; tail = i + 1; asleep = q.asleep })
-Pushed-none {z} {s} {s'} {q} {i} a e p = push_by a (rw e p.bytes) (rw (e, add-one))
+pushed_none {z} {s} {s'} {q} {i} a e p = push_by a (rw e p.bytes) (rw (e, add-one))
 
 pub pushed-some
     : {z : Sizes} {s s₁ s' : List ℕ} {q : RunQueue} {i : ℕ}

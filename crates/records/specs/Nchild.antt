@@ -17,7 +17,7 @@ use Rattle.state.specs.declared.Sizes.{Sizes}
 use Rattle.exact.specs.Bounds.{InBounds}
 use Rattle.exact.specs.Parts.{used_at, used_at_lem, used_of}
 use Rattle.holds.specs.Whole.{holds-bounds}
-use Rattle.holds.specs.Frames.{Placed-same}
+use Rattle.holds.specs.Frames.{placed_same}
 use Rattle.holds.specs.Use.{used_by, none, more, before}
 use Rattle.holds.specs.Did.{Did, did, machine_in, same, wrote_1}
 use Rattle.places.specs.Others.{others, keeps_with}
@@ -73,7 +73,7 @@ nchild-set {z} {s} {s₁} {i} {v} a h q =
           refl
           (λ n x.
           keeps_with (others x)
-          (Placed-same n refl refl refl refl refl refl refl refl refl refl refl refl refl (own-asleep b a.used (nchild_else m i v) p refl) x.placed))
+          (placed_same n refl refl refl refl refl refl refl refl refl refl refl refl refl (own-asleep b a.used (nchild_else m i v) p refl) x.placed))
           (own-machine b a.used (nchild_else m i v) p)
           (more (before a.used) none);
     }

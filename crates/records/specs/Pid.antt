@@ -12,7 +12,7 @@ use Rattle.state.specs.Abs.{run_list, waiter_list, timer_list, exit_list, waits_
 use Rattle.state.specs.Places.{sizes_in, mem_in, PutIn}
 use Rattle.state.specs.declared.Sizes.{Sizes}
 use Rattle.holds.specs.Holds.{Keeps, Holds}
-use Rattle.holds.specs.Frames.{Placed-same}
+use Rattle.holds.specs.Frames.{placed_same}
 use Rattle.holds.specs.Use.{used_by, EachInUse, before}
 use Rattle.holds.specs.Did.{Did, did, machine_in, same, wrote_1}
 use Rattle.places.specs.Others.{others, keeps_with}
@@ -44,7 +44,7 @@ pid-asleep z m = ap asleep (pid-machine z m)
 
 pid-keeps : {z : machine.Sizes} {m : Memory} (n : ℕ) → Keeps z m n → Keeps z (pid_mem m) n
 pid-keeps {z} {m} n k =
-    keeps_with (others k) (Placed-same n refl refl refl refl refl refl refl refl refl refl refl refl refl (pid-asleep z m) k.placed)
+    keeps_with (others k) (placed_same n refl refl refl refl refl refl refl refl refl refl refl refl refl (pid-asleep z m) k.placed)
 
 -- What the code shows.
 pub pid-taken

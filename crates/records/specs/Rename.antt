@@ -16,7 +16,7 @@ use Rattle.exact.specs.Bounds.{InBounds}
 use Rattle.exact.specs.Parts.{used_at, used_at_lem, used_of}
 use Rattle.holds.specs.Holds.{Holds}
 use Rattle.holds.specs.Whole.{holds-bounds}
-use Rattle.holds.specs.Frames.{Placed-same}
+use Rattle.holds.specs.Frames.{placed_same}
 use Rattle.holds.specs.Did.{Did, did, machine_in, same}
 use Rattle.places.specs.Others.{others, keeps_with}
 use Rattle.records.specs.Names.{IsName, names_with, name-here, spelled-stores, spelled-writable}
@@ -80,7 +80,7 @@ name_set {z} {s} {s₁} {i} {text} a q =
           (spelled-stores m (28 * i) text)
           (λ n x.
           keeps_with (others x)
-          (Placed-same n refl refl refl refl refl refl refl refl refl refl refl refl refl (own-asleep b a.living.used e p refl) x.placed))
+          (placed_same n refl refl refl refl refl refl refl refl refl refl refl refl refl (own-asleep b a.living.used e p refl) x.placed))
           (own-machine b a.living.used e p)
           (name-in_use i (28 * i) 0 text a.living.used (omega arith) (omega arith));
     }

@@ -134,13 +134,13 @@ module _ {z : Sizes} {s : List ℕ} {i : ℕ} (a : AddAsks z s i) where
           u.writable
           (writable_join z (message_stores (127 * c) (message name pid status)) (push_stores (mem_in z s) i c pid (length (message name pid status))) w.writable p)
 
-      Did-then
+      did_then
           : Did z s s₃ same same (add_stores z.cells (mem_in z s) i c pid (message name pid status))
           (add_mem z.cells (mem_in z s) i c pid (message name pid status))
           (with_process i
           (with_exits (record { cell = c; pid = pid; message = message name pid status } ∷ (process (machine_in z s) i).exits) (process (machine_in z s) i))
           (machine_in z s))
-      Did-then =
+      did_then =
           record {
             holds = λ k h.
                 record {
@@ -172,7 +172,7 @@ module _ {z : Sizes} {s : List ℕ} {i : ℕ} (a : AddAsks z s i) where
                 (with_process i
                 (with_exits (record { cell = x; pid = pid; message = message name pid status } ∷ (process (machine_in z s) i).exits) (process (machine_in z s) i))
                 (machine_in z s)))
-                the_cell Did-then;
+                the_cell did_then;
             changed = subst (λ (x : ℕ). Changed (sizes_in z) (mem_in z s) (mem_in z s₃) i (x ∷ exit_list (mem_in z s) i)) the_cell changed_then;
             ceased =
                 subst (Ceased z (mem_in z s)) (sym memory_then) (add-ceased z.cells (mem_in z s) i c pid (message name pid status) here.free);

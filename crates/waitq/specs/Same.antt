@@ -10,7 +10,7 @@ use Rattle.state.specs.Fields as fields
 use Rattle.state.specs.Abs.{machine_of}
 use Rattle.state.specs.WellFormed.{Cells, Index}
 use Rattle.holds.specs.Holds.{Keeps}
-use Rattle.holds.specs.Frames.{header-same, Placed-same, timed-same, ages-same}
+use Rattle.holds.specs.Frames.{header-same, placed_same, timed-same, ages-same}
 
 -- The fields that say which cells are in use and what is in them, and those of the wait queues: no other part of the machine reads them.
 abbrev pub of_exits : ℕ → Bool
@@ -68,7 +68,7 @@ same-keeps {z} {m} {m'} {n} e k c x a =
           (e fields.hz refl)
           k.header;
       placed =
-          Placed-same n (e fields.pid refl) (e fields.state_of refl) (e fields.resume_kind refl) (e fields.resume_object refl) (e fields.resume_condition refl) (e fields.up refl)
+          placed_same n (e fields.pid refl) (e fields.state_of refl) (e fields.resume_kind refl) (e fields.resume_object refl) (e fields.resume_condition refl) (e fields.up refl)
           (e fields.next refl)
           (e fields.run_head refl)
           (e fields.run_tail refl)
