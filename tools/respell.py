@@ -35,7 +35,7 @@ OTHERS = {
     "Placed-same": "placed_same",
     "Did-then": "did_then",
     "get_d_set": "get_or-set",
-    "get_d_set-kept": "get_or-set_kept",
+    "getD-set-kept": "get_or-set_kept",
     "get_d_past": "get_or-past",
 }
 
