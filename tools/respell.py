@@ -34,6 +34,8 @@ OTHERS = {
     "Pushed-none": "pushed_none",
     "Placed-same": "placed_same",
     "Did-then": "did_then",
+    "take-Cells": "take-cells",
+    "drop-Cells": "drop-cells",
     "get_d_set": "get_or-set",
     "getD-set-kept": "get_or-set_kept",
     "get_d_past": "get_or-past",

@@ -59,10 +59,10 @@ module _ {n : ℕ} {g x y t : ℕ → ℕ} (p : ℕ → ℕ) (i : ℕ) (h : n �
         → t 0 + 2 ^ above_of n i ≤ 18446744073709551615
     take-cell-top e d = top-add-room y t 16 (above_of n i) (y (above_of n i) + 2 ^ above_bit n i) r.full in_16 (omega arith) (middle-not e) d
 
-    pub take-Cells
+    pub take-cells
         : CellWords n p (add_bit x (word_of n i) (bit_of n i)) (add_if (is_full (x (word_of n i) + 2 ^ bit_of n i)) y (above_of n i) (above_bit n i))
         (add_if (is_full (x (word_of n i) + 2 ^ bit_of n i) && is_full (y (above_of n i) + 2 ^ above_bit n i)) t 0 (above_of n i))
-    take-Cells =
+    take-cells =
         record {
           words = words-add (word_of n i) (bit_of n i) r.words (bit-small n i) in_1016 set;
           middle =
@@ -106,10 +106,10 @@ module _ {n : ℕ} {g x y t : ℕ → ℕ} (p : ℕ → ℕ) (i : ℕ) (h : n �
     pub drop_cell-top : is_full (x (word_of n i)) ≡ true → is_full (y (above_of n i)) ≡ true → 2 ^ above_of n i ≤ t 0
     drop_cell-top e d = top-cut-room y t 16 (above_of n i) (y (above_of n i) - 2 ^ above_bit n i) r.full in_16 d (middle-is-not e)
 
-    pub drop-Cells
+    pub drop-cells
         : CellWords n p (cut_bit x (word_of n i) (bit_of n i)) (cut_if (is_full (x (word_of n i))) y (above_of n i) (above_bit n i))
         (cut_if (is_full (x (word_of n i)) && is_full (y (above_of n i))) t 0 (above_of n i))
-    drop-Cells =
+    drop-cells =
         record {
           words = words-cut (word_of n i) (bit_of n i) r.words (bit-small n i) in_1016 cut;
           middle =

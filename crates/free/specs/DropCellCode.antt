@@ -12,7 +12,7 @@ use Rattle.free.specs.Bit.{ClearAsks, ClearDone}
 use Rattle.free.specs.Asks.{StateIn, writes_in}
 use Rattle.free.specs.Right.{CellWords}
 use Rattle.free.specs.Record.{word_of, bit_of, bit-small}
-use Rattle.free.specs.Cell.{above_of, above_bit, above-small, cell_in_lem, drop_cell-room, drop-middle, drop_cell-top, drop-Cells}
+use Rattle.free.specs.Cell.{above_of, above_bit, above-small, cell_in_lem, drop_cell-room, drop-middle, drop_cell-top, drop-cells}
 use Rattle.free.specs.UseCell.{drop_cell_writes, drop_cell_mem, DropCellAsks, DropCellDone}
 use Rattle.free.specs.CellStores.{CellFits, cell-writable, cell-done, after_first, after-second, one_store, two-stores, three-stores, top-range}
 
@@ -77,7 +77,7 @@ module _ {z : Sizes} {s : List ℕ} {i : ℕ} (a : DropCellAsks z s i) where
               state = d.0;
               right =
                   subst (λ (k : Memory). CellWords z.cells p (k fields.used_cells) (k fields.full_cell_words) (k fields.full_cells)) (sym d.1)
-                  (drop-Cells p i a.words.sizes.cells.1 r.right a.index e' on off);
+                  (drop-cells p i a.words.sizes.cells.1 r.right a.index e' on off);
             };
       }
 

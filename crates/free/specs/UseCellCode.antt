@@ -12,7 +12,7 @@ use Rattle.free.specs.Bit.{SetAsks, SetDone}
 use Rattle.free.specs.Asks.{StateIn, writes_in}
 use Rattle.free.specs.Right.{CellWords}
 use Rattle.free.specs.Record.{word_of, bit_of, bit-small}
-use Rattle.free.specs.Cell.{above_of, above_bit, above-small, cell_in_lem, take-cell-room, take-middle, take-cell-top, take-Cells}
+use Rattle.free.specs.Cell.{above_of, above_bit, above-small, cell_in_lem, take-cell-room, take-middle, take-cell-top, take-cells}
 use Rattle.free.specs.UseCell.{use_cell_writes, use_cell_mem, UseCellAsks, UseCellDone}
 use Rattle.free.specs.CellStores.{CellFits, cell-writable, cell-done, after_first, after-second, one_store, two-stores, three-stores}
 
@@ -59,7 +59,7 @@ module _ {z : Sizes} {s : List ℕ} {i : ℕ} (a : UseCellAsks z s i) where
               state = d.0;
               right =
                   subst (λ (k : Memory). CellWords z.cells p (k fields.used_cells) (k fields.full_cell_words) (k fields.full_cells)) (sym d.1)
-                  (take-Cells p i a.words.sizes.cells.1 r.right a.index e' off on);
+                  (take-cells p i a.words.sizes.cells.1 r.right a.index e' off on);
             };
       }
 
