@@ -10,8 +10,8 @@
 #      `step` and `run`, as C callers have them, and the Rust the same after every step of generated lists; damaged states are refused;
 #   6. where cargo is installed: `size`, `make` and `check`, as C callers have them, on many states against an independent reading, and,
 #      where gcc is too, the C and the Rust caller of docs/CALLERS.md;
-#   7. every crate is proved from nothing and its files are laid out, every must-fail edit is refused and none is bad, and every program writes what
-#      it must (`rt ci`).
+#   7. every crate is proved and its files are laid out, every must-fail edit is refused and none is bad, and every program writes what it must
+#      (`rt ci`, from nothing but for what an earlier run of it passed on this machine).
 # What needs nothing but the definition and the Rust runs beside 4 and the building of what C callers have.
 set -euo pipefail
 cd "$(dirname "$0")"

@@ -6,7 +6,7 @@ Of a law whose name has dashes, a dash stays where it joins two names of functio
 plain word hangs on by `_` (`added_after`); a field's name has no dash. A law that port.py gave a capital because its first word is a type's name too is in small
 letters, as the others. A name that would meet another that stands, gets an ending: `_lem` for a law, a word of OTHERS else.
 Names of Rust functions, of types and modules, texts in quotes, and what Rattle makes (`c.x`, `tie.x`) stay. Comments, the pages, the edits and the Rust
-programs that name the state's fields follow.
+programs' comments that name the state's fields follow.
 With --check nothing is written: the table of names is printed."""
 
 import collections
@@ -260,8 +260,10 @@ def main():
         old = read(f)
         new = pieces(old, re.compile(r"(?m)^(?:#|--)[^\n]*|" + quoted.pattern), lambda s: prose(s) if s[0] in "#-" else s)
         write(f, old, new)
-    pages = ["README.md", "docs/*.md", "definition/*.sh", "trials/**/*.txt", "trials/*.sh", "bench/*", "outside/README.md", "outside/src/*.rs", "differential/src/*.rs"]
-    for f in tree(*pages):
+    for f in tree("outside/src/*.rs", "differential/src/*.rs"):
+        old = read(f)
+        write(f, old, re.sub(r"(?m)^\s*//[^\n]*", lambda m: prose(m[0]), old))
+    for f in tree("README.md", "docs/*.md", "definition/*.sh", "trials/**/*.txt", "trials/*.sh", "bench/*", "outside/README.md"):
         old = read(f)
         write(f, old, prose(old))
 
