@@ -1,8 +1,8 @@
 #!/usr/bin/env bash
 # test.sh: everything that must hold, ending at the first fault. What it prints last is the last line of `rt ci`, 'N passed, 0 failed'.
 #   1. on each fixed list in lists/ the definition computes the kept listing, and every answer and number arises in one of them;
-#   2. demand 3, as it is stated, does not hold of wrong machines;
-#   3. the operations on the lent state do in small scenarios what 01 says, interpreted and compiled;
+#   2. `Demand3`, as it is stated, does not hold of wrong machines;
+#   3. the operations on the lent state do in small scenarios what docs/MACHINE.md says, interpreted and compiled;
 #   4. the code gives on each fixed list the kept listing (`replay`), and the program `steps` takes long lines, any bytes and any cut of its input;
 #   5. where the Rust is at hand (the folder R9_SRC, from the repository's top, by default ../shared/docs/src/port/src): the kept
 #      listings are what the Rust gives today, they hold every step with each number that it can meet, the definition and the

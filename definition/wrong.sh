@@ -1,8 +1,8 @@
 #!/usr/bin/env bash
-# wrong.sh: whether demand 3 rules out each wrong machine in definition/wrong.
+# wrong.sh: whether `Demand3` (docs/MACHINE.md, "Places", "Waiting") rules out each wrong machine in definition/wrong.
 #
 # For each NAME.txt there, the edit crates/machine/must-fail/NAME.edit is made in a copy of the definition, and the proof checker must accept
-# NAME.txt between Head.txt and Tail.txt: that demand 3, as it is stated (crates/history/specs/Demand3.antt), fails for the machine so edited at
+# NAME.txt between Head.txt and Tail.txt: that `Demand3`, as it is stated (crates/history/specs/Demand3.antt), fails for the machine so edited at
 # a list of steps. The tables of examples and the laws of the definition are left out of the copy. Before that, the checker must not accept
 # the same of the machine as it is. Says in one line how many were ruled out; names the first that was not, and fails.
 set -euo pipefail
@@ -16,7 +16,7 @@ command -v rt >/dev/null 2>&1 || fail "the toolchain's command rt is not install
 work=$(mktemp -d)
 trap 'rm -rf "$work"' EXIT
 
-# the definition and the statement of demand 3, alone
+# the definition and the statement of `Demand3`, alone
 prepare() {
   local crate part module
   mkdir -p "$work/crates/history/specs" "$work/crates/history/proofs"
@@ -89,4 +89,4 @@ for name in "${names[@]}"; do
   accepted || fail "$name is not refuted: $(grep -m1 error "$work/out" || true)"
   cp "$top/crates/machine/$changed" "$work/crates/machine/$changed"
 done
-echo "definition: demand 3 rules out ${#names[@]} of ${#names[@]} wrong machines"
+echo "definition: Demand3 rules out ${#names[@]} of ${#names[@]} wrong machines"

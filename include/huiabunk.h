@@ -1,6 +1,6 @@
 /* Huiabunk for C callers. Every function takes whatever bytes it is lent, of any length, and writes nothing outside them.
  * A slice is a pointer and a length; with length 0 the pointer is not read. Slices that are lent together must not overlap.
- * docs/CALLERS.md shows callers, docs/STEPS.md the steps, docs/STATE.md the state. */
+ * docs/MACHINE.md says what the machine does; docs/CALLERS.md shows callers, docs/STEPS.md the steps, docs/STATE.md the state. */
 #ifndef HUIABUNK_H
 #define HUIABUNK_H
 

@@ -1,5 +1,5 @@
 #!/usr/bin/env bash
-# lists/replay.sh: the program `replay` on every fixed list, 01's worked list and its unstarred examples (001, 031, 032) among them: what the
+# lists/replay.sh: the program `replay` on every fixed list, the listing of docs/STEPS.md (001) and the 129 exits (031, 032) among them: what the
 # code does is compared line by line with the listing that is kept. Builds the program, proving what it needs.
 set -euo pipefail
 cd "$(dirname "$0")/.."

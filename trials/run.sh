@@ -1,6 +1,6 @@
 #!/usr/bin/env bash
 # run.sh: the operations on the lent state, tried from outside. The program in leaves/ calls them in small scenarios and prints what happened;
-# it must print the lines of leaves/expected.txt, which stand there below 01's sentences.
+# it must print the lines of leaves/expected.txt, which stand there below the rules that they show.
 #
 # `rt try` runs the program, unproved, on the interpreter, and compiled with checks of each access and each sum. Every crate in crates/ is
 # proved, and `rt ci` allows no .rt file elsewhere: so the program's file NAME.rt is kept as NAME.rt.txt, and it runs in a repository of its
@@ -49,10 +49,10 @@ come() {
   [ -n "$at" ] || fail "the program does not run to its end"
   line=$(head -c "$at" "$1.stdout" | wc -l)
   echo "trials/run.sh: the last line as it must be: $(head -n "$line" "$1.stdout" | tail -n 1)" >&2
-  fail "not as 01 has it, first: $(sed -n "$((line + 1))p" "$1.stdout")"
+  fail "not as it must be, first: $(sed -n "$((line + 1))p" "$1.stdout")"
 }
 
-(cd "$program" && rt try --cases "$work/cases") >"$work/out" 2>&1 || true
+(cd "$program" && rt try --steps 200000000 --seconds 600 --cases "$work/cases") >"$work/out" 2>&1 || true
 come few 2
 come all 12
-echo "trials: $(wc -l <all.stdout) lines came as 01 has them, on the interpreter and compiled with checks"
+echo "trials: $(wc -l <all.stdout) lines came as they must, on the interpreter and compiled with checks"

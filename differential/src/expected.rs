@@ -19,7 +19,7 @@ pub const ANSWERS: [(u64, &str); 12] = [
     (43, "child"),
 ];
 
-/// The numbers of 01's table.
+/// The numbers of docs/MACHINE.md, "Refusals".
 pub const REFUSALS: std::ops::RangeInclusive<u64> = 1..=17;
 /// Those of an rfork that failed, and of no step.
 pub const NO_MEMORY: u64 = 11;

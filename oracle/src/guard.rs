@@ -1,4 +1,4 @@
-//! The refusals of document 01's table that r9 does not know, or asserts on.
+//! Those of docs/MACHINE.md, "Refusals", that r9 does not know, or asserts on.
 //! They are decided before the step, from r9's structures, and the step is
 //! then not given to r9.  Numbers 10, 11, 14 and 15 are r9's own errors.
 
@@ -12,8 +12,9 @@ use crate::parse::Step;
 use crate::perform::parts;
 use std::time::Duration;
 
-/// 01's order, without the numbers that no step of a list meets (1, 14, 16),
-/// that the line's reader gives (2), or that are r9's and come last (11, 15).
+/// "Order of refusals", without the numbers that no step of a list meets
+/// (1, 14, 16), that the line's reader gives (2), or that are r9's and come
+/// last (11, 15).
 const ORDER: [u32; 10] = [3, 17, 10, 4, 7, 8, 9, 5, 6, 12];
 /// The same for `sleep` alone.
 const ORDER_OF_SLEEP: [u32; 3] = [3, 5, 4];

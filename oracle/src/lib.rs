@@ -1,5 +1,5 @@
-//! r9's own process code, unchanged, and what drives it by document 01's
-//! steps.
+//! r9's own process code, unchanged, and what drives it by the steps of
+//! docs/MACHINE.md.
 
 extern crate alloc;
 extern crate self as sys;

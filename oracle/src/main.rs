@@ -1,4 +1,4 @@
-//! The oracle: r9's own process code driven by document 01's steps.
+//! The oracle: r9's own process code driven by the steps of docs/MACHINE.md.
 
 use oracle::driver::Driver;
 use oracle::sizes::Sizes;

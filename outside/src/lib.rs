@@ -1,5 +1,5 @@
-//! States, good and damaged, an own reading of docs/STATE.md and of 01 beside
-//! them, and `size`, `make` and `check` tried on them.
+//! States, good and damaged, an own reading of docs/STATE.md and
+//! docs/MACHINE.md beside them, and `size`, `make` and `check` tried on them.
 
 pub mod bench;
 pub mod check_test;

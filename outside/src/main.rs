@@ -1,5 +1,5 @@
 //! Tries `size`, `make` and `check` from outside: their static libraries
-//! against an own reading of docs/STATE.md and of 01.
+//! against an own reading of docs/STATE.md and docs/MACHINE.md.
 
 use outside::check_test::{self, Amount};
 use outside::random::Random;

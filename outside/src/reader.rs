@@ -1,8 +1,8 @@
-//! When are bytes a state?  An own reading of 01's paragraph 'A state is well
-//! formed exactly if' and of the rules of docs/STATE.md, written from these
-//! two alone (and items 15 to 17 of docs/DECISIONS.md, which say how 01's
-//! paragraph is meant).  Every rule is a function that looks at the whole
-//! state and at nothing that another rule found.
+//! When are bytes a state?  An own reading of docs/MACHINE.md, "Well-formed
+//! states", and of the rules of docs/STATE.md, written from these two alone
+//! (and items 15 to 17 of docs/DECISIONS.md, which say why).  Every rule is a
+//! function that looks at the whole state and at nothing that another rule
+//! found.  What is quoted after the name of a clause is docs/MACHINE.md.
 
 use crate::layout::*;
 
@@ -16,7 +16,9 @@ const fn rule(name: &'static str, holds: fn(&State) -> bool) -> Rule {
     Rule { name, holds }
 }
 
-/// The rules, after the first two: those need no state in range.
+/// The rules, after the first two: those need no state in range.  A rule of
+/// docs/STATE.md is called by its number, a clause of docs/MACHINE.md,
+/// "Well-formed states": its name begins with `machine`.
 const RULES: [Rule; 40] = [
     rule("rule 2: mark", mark),
     rule("rule 3: run queue", run_queue),
@@ -42,22 +44,22 @@ const RULES: [Rule; 40] = [
     rule("rule 12: free records", free_records),
     rule("rule 12: free cells", free_cells),
     rule("rule 12: timers not queued", timers_not_queued),
-    rule("01: last NOW in range", last_now_in_range),
-    rule("01: next pid in range", next_pid_in_range),
-    rule("01: objects of calls in range", objects_in_range),
-    rule("01: periods in range", periods_in_range),
-    rule("01: timer 0 is 10 ms", timer_zero_is_the_clock),
-    rule("01: one place", one_place),
-    rule("01: calls fit places", calls_fit_places),
-    rule("01: timers by deadline", timers_by_deadline),
-    rule("01: nchild", nchild),
-    rule("01: cells in one queue", cells_in_one_queue),
-    rule("01: pids differ, below the next", pids_differ),
-    rule("01: parent below child", parent_below_child),
-    rule("01: timer queued in tsleep only", timer_in_tsleep_only),
-    rule("01: lock with waiters is held", waited_for_is_held),
-    rule("01: ticks", ticks_in_time),
-    rule("01: quantum_end", quantum_end),
+    rule("machine: last NOW in range", last_now_in_range),
+    rule("machine: next pid in range", next_pid_in_range),
+    rule("machine: objects of calls in range", objects_in_range),
+    rule("machine: periods in range", periods_in_range),
+    rule("machine: timer 0 is 10 ms", timer_zero_is_the_clock),
+    rule("machine: one place", one_place),
+    rule("machine: calls fit places", calls_fit_places),
+    rule("machine: timers by deadline", timers_by_deadline),
+    rule("machine: nchild", nchild),
+    rule("machine: cells in one queue", cells_in_one_queue),
+    rule("machine: pids differ, below the next", pids_differ),
+    rule("machine: parent below child", parent_below_child),
+    rule("machine: timer queued in tsleep only", timer_in_tsleep_only),
+    rule("machine: lock with waiters is held", waited_for_is_held),
+    rule("machine: ticks", ticks_in_time),
+    rule("machine: quantum_end", quantum_end),
 ];
 
 /// How many rules there are, with the first two.
@@ -75,7 +77,7 @@ pub fn rule_name(i: usize) -> &'static str {
 /// tags, or has a call that fits one place at most; a cell in two queues has
 /// one owner.
 pub fn is_implied(i: usize) -> bool {
-    matches!(rule_name(i), "01: one place" | "01: cells in one queue")
+    matches!(rule_name(i), "machine: one place" | "machine: cells in one queue")
 }
 
 /// Are these bytes a state?
@@ -111,7 +113,7 @@ pub struct Kept<'a> {
 }
 
 impl<'a> Kept<'a> {
-    /// Rule 1: "The sizes are in 01's ranges, the buffer is long enough."
+    /// Rule 1: "The sizes are in their ranges, the buffer is long enough."
     pub fn read(bytes: &'a [u8]) -> Option<Kept<'a>> {
         if bytes.len() < Region::Header.bytes_each() {
             return None;
@@ -166,8 +168,7 @@ fn header_sizes(bytes: &[u8]) -> Sizes {
     }
 }
 
-/// 01: "P processes, R Rendez, Q locks and K kernel timers (1 to 4,096 each),
-/// C message cells (1 to 65,000)."
+/// In range: docs/MACHINE.md, "Sizes".
 pub fn sizes_in_range(z: Sizes) -> bool {
     [z.p, z.r, z.q, z.k].iter().all(|n| (1..=4_096).contains(n)) && (1..=65_000).contains(&z.c)
 }
@@ -503,17 +504,18 @@ fn timers_not_queued(s: &State) -> bool {
     (0..s.z.k + s.z.p).all(|t| s.is_timer_queued(t) || s.kept.get(TIMER_NEXT, t) == 0)
 }
 
-/// 01: "its sizes and fields are in range": a NOW is accepted up to 2^51 − 1.
+/// In range: "the next pid and the last NOW in their ranges"; a NOW is accepted
+/// up to 2^51 − 1.
 fn last_now_in_range(s: &State) -> bool {
     s.kept.header(LAST_NOW) <= LAST_TIME
 }
 
-/// 01: the same: "Pids start at 1."
+/// In range: the same; pids start at 1.
 fn next_pid_in_range(s: &State) -> bool {
     s.kept.header(NEXT_PID) >= 1
 }
 
-/// 01: the same: a call that has not returned names one of the Rendez or locks.
+/// In range: "the Rendez, condition or lock of a call is one that there is".
 fn objects_in_range(s: &State) -> bool {
     s.living().all(|i| match s.call(i) {
         SLEEP | TSLEEP => s.object(i) < s.z.r,
@@ -528,18 +530,17 @@ fn periods_in_range(s: &State) -> bool {
     (0..s.z.k).map(|t| s.kept.get(PERIOD, t)).all(|period| period == 0 || period >= shortest)
 }
 
-/// 01: "Timer 0 is `HZCLOCK`, periodic, 10 ms."
+/// In range: timer 0's "period is the counts of 10 ms, always".
 fn timer_zero_is_the_clock(s: &State) -> bool {
     s.kept.get(PERIOD, 0) == counts(TICK, s.kept.header(HZ))
 }
 
-/// 01: "each living process is in one place of demand 3": "running, in the run
-/// queue, on one Rendez or in one QLock's queue, exactly one of these".
+/// One place: "each living process is in exactly one place".
 fn one_place(s: &State) -> bool {
     s.living().all(|i| s.places[i].len() == 1)
 }
 
-/// Item 15: "a call which has not returned fits its place".
+/// Calls fit; item 15: "a call which has not returned fits its place".
 fn calls_fit_places(s: &State) -> bool {
     s.living().all(|i| s.places[i].iter().all(|place| call_fits(s, i, *place)))
 }
@@ -554,13 +555,14 @@ fn call_fits(s: &State, i: usize, place: Place) -> bool {
     }
 }
 
-/// 01: "queued timers stand by deadline".
+/// Timers: "they are queued by deadline".
 fn timers_by_deadline(s: &State) -> bool {
     let deadline = |t: usize| s.kept.get(DEADLINE, t);
     s.timers.members.windows(2).all(|pair| deadline(pair[0]) <= deadline(pair[1]))
 }
 
-/// 01: "nchild [counts] the living children".
+/// Children: "nchild is the number of living processes whose parent has this
+/// pid".
 fn nchild(s: &State) -> bool {
     s.living().all(|i| {
         let children = s.living().filter(|&j| s.parents[j] == s.pids[i]).count();
@@ -568,45 +570,45 @@ fn nchild(s: &State) -> bool {
     })
 }
 
-/// 01: "each message cell is free or in one living process's wait queue, at
-/// most 128 there".
+/// Cells: "a cell is in one wait queue at most, and there once", in which there
+/// are at most 128.
 fn cells_in_one_queue(s: &State) -> bool {
     s.times_hung().iter().all(|&times| times <= 1)
         && s.living().all(|i| s.exits[i].members.len() <= 128)
 }
 
-/// 01: "living pids differ, from 1 to below the next pid".
+/// Pids: "the pids of the living differ, and each is below the next pid".
 fn pids_differ(s: &State) -> bool {
     let next = s.kept.header(NEXT_PID);
     s.living().all(|i| s.pids[i] < next && s.living().all(|j| i == j || s.pids[i] != s.pids[j]))
 }
 
-/// 01: "a parent's pid, 0 for none, is below its child's".
+/// Pids: "a parent's pid is below its child's".
 fn parent_below_child(s: &State) -> bool {
     s.living().all(|i| s.parents[i] < s.pids[i])
 }
 
-/// 01: "a process's timer is queued only while its `tsleep` has not returned".
+/// Timers: "an own timer is queued only while its process's call is `tsleep`".
 fn timer_in_tsleep_only(s: &State) -> bool {
     (0..s.z.p).all(|i| !s.is_timer_queued(s.z.k + i) || (s.used(i) && s.call(i) == TSLEEP))
 }
 
-/// 01: "a lock with waiters is held".
+/// Locks: "a lock with waiters is held".
 fn waited_for_is_held(s: &State) -> bool {
     (0..s.z.q).all(|q| s.locks[q].members.is_empty() || s.kept.get(HELD, q) == 1)
 }
 
-// 01: "qwaitr is held exactly while its process has a `wait` not returned" says
-// nothing of the bytes: docs/STATE.md has no other sign of qwaitr than that call.
+// That qwaitr is held exactly while the call is `wait` says nothing of the
+// bytes: docs/STATE.md has no other sign of qwaitr than that call.
 
-/// 01: "ticks are at most the last NOW, and below timer 0's deadline where it
-/// is queued".
+/// Time: "the last NOW is not below ticks. Where timer 0 is queued, its deadline
+/// is above ticks".
 fn ticks_in_time(s: &State) -> bool {
     let ticks = s.kept.header(TICKS);
     ticks <= s.kept.header(LAST_NOW) && (!s.is_timer_queued(0) || ticks < s.kept.get(DEADLINE, 0))
 }
 
-/// 01: "and quantum_end is at most ticks + 10".
+/// Time: "no quantum_end is above ticks + 10".
 fn quantum_end(s: &State) -> bool {
     let most = u128::from(s.kept.header(TICKS)) + 10;
     s.living().all(|i| u128::from(s.kept.get(QUANTUM_END, i)) <= most)

@@ -1,6 +1,6 @@
 -- What `age_in` does: to the bytes and to the memory.
-use Rattle.std.specs.Prelude.{◌≡◌, refl, List, [], ◌∷◌, ◌++◌, ℕ, zero, suc, ◌+◌, ◌≤◌, ◌<◌}
-use Rattle.std.proofs.Common.{ap, ◌∙◌, arith, add-one}
+use Rattle.std.specs.Prelude.{◌≡◌, refl, List, [], ◌∷◌, ◌++◌, ℕ, zero, suc, ◌≤◌, ◌<◌}
+use Rattle.std.proofs.Common.{ap, ◌∙◌, arith}
 use Rattle.layout.specs.Table.{slot}
 use Rattle.layout.specs.Memory.{Memory, upd, Ranged}
 use Rattle.layout.specs.Writes.{Write, to, updates, Writable}
@@ -55,15 +55,15 @@ pub aged_in
     → AgeInAsks z s i
     → t ≡ mem_in z s fields.youngest 0
     → PutIn z s s₁ (slot 1 26 2) i t
-    → Wrote z s₁ s₂ (tie_stores fields.younger fields.oldest t (i + 1) i)
-    → PutIn z s₂ s₃ (slot 0 38 2) 0 (i + 1)
+    → Wrote z s₁ s₂ (tie_stores fields.younger fields.oldest t (suc i) i)
+    → PutIn z s₂ s₃ (slot 0 38 2) 0 (suc i)
     → AgedIn z s s₃ i
 unfolding Ranged
 aged_in {z} {s} {s₁} {s₂} {s₃} {i} {t} a e p₁ w p₃ =
     let one : Wrote z s s₁ (to fields.older i t ∷ []) = record { bytes = p₁.bytes; long = p₁.long } in
-    let last : Wrote z s₂ s₃ (to fields.youngest 0 (i + 1) ∷ []) = record { bytes = p₃.bytes; long = p₃.long } in
+    let last : Wrote z s₂ s₃ (to fields.youngest 0 (suc i) ∷ []) = record { bytes = p₃.bytes; long = p₃.long } in
     let t' : ℕ = mem_in z s fields.youngest 0 in
     stores-done a.aged.whole
     (writable z t' i (a.aged.whole.state.ranged fields.youngest 0) a.index)
-    (rw (add-one, e) at (wrote-runs one w last))
+    (rw e at (wrote-runs one w last))
     (updates_in (mem_in z s) t' i)

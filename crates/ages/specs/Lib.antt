@@ -2,6 +2,7 @@
 pub mod Lists
 pub mod Both
 pub mod Ties
+pub mod Way
 pub mod Kept
 pub mod In
 pub mod Newest

@@ -1,5 +1,5 @@
 -- What `find_parent` finds: the living parent of a process.
-use Rattle.std.specs.Prelude.{◌≡◌, List, ℕ, suc, ◌-◌, ◌≤◌}
+use Rattle.std.specs.Prelude.{◌≡◌, List, ℕ, suc, ◌≤◌}
 use Rattle.std.proofs.Common.{sym, ap, ◌∙◌, arith}
 use Rattle.machine.specs.Machine.{Machine, Process, process}
 use Rattle.machine.specs.Exits.{found}
@@ -56,50 +56,46 @@ module _ {z : Sizes} {s : List ℕ} {i : ℕ} (a : LivingIn z s i) where
 
 -- What the last read asks.
 pub parent-reach
-    : {z : Sizes} {s : List ℕ} {i l : ℕ}
+    : {z : Sizes} {s : List ℕ} {i j : ℕ}
     → LivingIn z s i
-    → l ≡ mem_in z s fields.parent_at i
-    → (l ≡ 0 → ⊥)
-    → ReachIn z s (slot 1 0 8) (l - 1)
+    → suc j ≡ mem_in z s fields.parent_at i
+    → ReachIn z s (slot 1 0 8) j
 unfolding Ranged
-parent-reach {z} {s} {i} {l} a e ne =
+parent-reach {z} {s} {i} {j} a e =
     record {
       inside = record { region = omega arith; end = omega arith };
       index = omega (arith, e, a.aged.whole.state.ranged fields.parent_at i);
       long = a.aged.whole.state.long;
     }
 
--- What the code shows at each return: q is the parent's pid, l the link, and v the pid there.
+-- What the code shows at each return: q is the parent's pid, j the record that the parent had, and v the pid there.
 pub parent-none : {z : Sizes} {s : List ℕ} {i q : ℕ} → LivingIn z s i → q ≡ mem_in z s fields.parent i → q ≡ 0 → ParentFound z s i 0
 parent-none a e d = nobody a (λ j n. absurd (omega (arith, e, d, n.used, n.pid)))
 
-pub parent-unlinked : {z : Sizes} {s : List ℕ} {i l : ℕ} → LivingIn z s i → l ≡ mem_in z s fields.parent_at i → l ≡ 0 → ParentFound z s i 0
-parent-unlinked a e d = nobody a (λ j n. absurd (omega (arith, e, d, linked a j n)))
+pub parent-unlinked : {z : Sizes} {s : List ℕ} {i : ℕ} → LivingIn z s i → 0 ≡ mem_in z s fields.parent_at i → ParentFound z s i 0
+parent-unlinked a e = nobody a (λ j n. absurd (omega (arith, e, linked a j n)))
 
 pub parent-gone
-    : {z : Sizes} {s : List ℕ} {i q l v : ℕ}
+    : {z : Sizes} {s : List ℕ} {i j q v : ℕ}
     → LivingIn z s i
     → q ≡ mem_in z s fields.parent i
-    → l ≡ mem_in z s fields.parent_at i
-    → v ≡ mem_in z s fields.pid (l - 1)
+    → suc j ≡ mem_in z s fields.parent_at i
+    → v ≡ mem_in z s fields.pid j
     → (v ≡ q → ⊥)
     → ParentFound z s i 0
-parent-gone {z} {s} {i} {q} {l} {v} a e d h ne =
+parent-gone {z} {s} {i} {j} {q} {v} a e d h ne =
     nobody a
-    (λ j n.
-    let w : l - 1 ≡ j = omega (arith, d, linked a j n) in
+    (λ k n.
+    let w : j ≡ k = omega (arith, d, linked a k n) in
     ne (h ∙ ap (mem_in z s fields.pid) w ∙ n.pid ∙ sym e))
 
 pub parent-here
-    : {z : Sizes} {s : List ℕ} {i q l v : ℕ}
+    : {z : Sizes} {s : List ℕ} {i j q v : ℕ}
     → LivingIn z s i
     → q ≡ mem_in z s fields.parent i
     → (q ≡ 0 → ⊥)
-    → l ≡ mem_in z s fields.parent_at i
-    → (l ≡ 0 → ⊥)
-    → v ≡ mem_in z s fields.pid (l - 1)
+    → suc j ≡ mem_in z s fields.parent_at i
+    → v ≡ mem_in z s fields.pid j
     → v ≡ q
-    → ParentFound z s i l
-parent-here {z} {s} {i} {q} {l} {v} a e ne d nl h w =
-    let k : suc (l - 1) ≡ l = omega arith in
-    rw k at (somebody a (l - 1) (record { used = omega (arith, h, w); pid = sym h ∙ w ∙ e }))
+    → ParentFound z s i (suc j)
+parent-here {z} {s} {i} {j} {q} {v} a e ne d h w = somebody a j (record { used = omega (arith, h, w); pid = sym h ∙ w ∙ e })

@@ -1,14 +1,13 @@
 -- The stores that tie one link to another, one way: what they make of the memory, and what the code that makes them shows.
-use Rattle.std.specs.Prelude.{if◌then◌else◌, ◌≡◌, refl, Bool, true, false, List, [], ◌∷◌, ◌++◌, ℕ, zero, suc, ◌-◌, ◌≤◌, ◌<◌, eqb, length}
+use Rattle.std.specs.Prelude.{if◌then◌else◌, ◌≡◌, refl, Bool, true, false, List, [], ◌∷◌, ◌++◌, ℕ, zero, suc, ◌≤◌, ◌<◌, eqb, length}
 use Rattle.std.proofs.Common.{sym, ap, subst, ◌∙◌, arith, eqb-true, eq-eqb}
 use Rattle.std.proofs.Math.Path.{fun_ext}
 use Rattle.machine.specs.Machine as machine
-use Rattle.layout.specs.Table.{field}
 use Rattle.layout.specs.Memory.{Memory, alter, upd, set_field, set_same, set_twice, Ranged}
 use Rattle.layout.specs.Writes.{State, Write, to, writes, updates, Writable, written, state-writes}
 use Rattle.state.specs.Fields as fields
 use Rattle.state.proofs.Ranges.{ranges}
-use Rattle.state.specs.Places.{sizes_in, total_in, mem_in, PutIn, Wrote, wrote-more}
+use Rattle.state.specs.Places.{sizes_in, total_in, mem_in, Wrote}
 use Rattle.state.specs.declared.Sizes.{Sizes}
 use Rattle.rules.specs.Code.{Whole}
 use Rattle.ages.specs.Both.{tie_links, tie_first}
@@ -89,34 +88,3 @@ pub tie_asks
 unfolding Ranged
 tie_asks f most {z} {s} {s₁} {t} {i} j w e l h =
     record { long = l; index = h; link = omega (arith, e, w.state.ranged f j, most (sizes_in z)) }
-
--- Two stores, one after another.
-wrote_2
-    : {z : Sizes} {s s₁ s₂ : List ℕ} {f₁ f₂ i₁ i₂ v₁ v₂ : ℕ}
-    → PutIn z s s₁ (field fields.layout1 f₁) i₁ v₁
-    → PutIn z s₁ s₂ (field fields.layout1 f₂) i₂ v₂
-    → Wrote z s s₂ (to f₁ i₁ v₁ ∷ to f₂ i₂ v₂ ∷ [])
-wrote_2 {z} p₁ p₂ = record { bytes = wrote-more z _ p₁.bytes p₂; long = p₂.long }
-
--- What the code shows at each return.
-pub tied_end
-    : (f e : ℕ) {z : Sizes} {s s₁ s₂ : List ℕ} {at v i : ℕ}
-    → TieAsks z s at i
-    → at ≡ 0
-    → PutIn z s s₁ (field fields.layout1 f) i 0
-    → PutIn z s₁ s₂ (field fields.layout1 e) 0 v
-    → Wrote z s s₂ (tie_stores f e at v i)
-tied_end f e a q p₁ p₂ = rw q (wrote_2 p₁ p₂)
-
-pub tied_link
-    : (f e : ℕ) {z : Sizes} {s s₁ s₂ : List ℕ} {at v i : ℕ}
-    → TieAsks z s at i
-    → (at ≡ 0 → ⊥)
-    → PutIn z s s₁ (field fields.layout1 f) i 0
-    → PutIn z s₁ s₂ (field fields.layout1 f) (at - 1) v
-    → Wrote z s s₂ (tie_stores f e at v i)
-tied_link f e {z} {s} {s₁} {s₂} {at} {v} {i} a ne p₁ p₂ = go at ne (wrote_2 p₁ p₂)
-  where
-    go : (k : ℕ) → (k ≡ 0 → ⊥) → Wrote z s s₂ (to f i 0 ∷ to f (k - 1) v ∷ []) → Wrote z s s₂ (tie_stores f e k v i)
-    go zero n w = absurd (n refl)
-    go (suc k) n w = let d : suc k - 1 ≡ k = omega arith in rw d at w

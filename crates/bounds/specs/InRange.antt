@@ -1,16 +1,15 @@
 -- Every field is in range exactly where each group of columns is: the other fields are as wide as their maxima.
-use Rattle.std.specs.Prelude.{if◌then◌else◌, ◌≡◌, refl, Bool, true, false, not, List, ℕ, zero, suc, ◌^◌, ◌≤◌, ◌<◌, ltb, get_or}
+use Rattle.std.specs.Prelude.{if◌then◌else◌, ◌≡◌, refl, Bool, true, false, IsTrue, ◌↔◌, List, ℕ, zero, suc, ◌^◌, ◌≤◌, ◌<◌, ltb, length, get_or}
 use Rattle.std.proofs.Common.{subst, arith, not-suc-le-zero, ltb-true, ltb-false}
 use Rattle.memory.specs.Le.{le, le-bound}
 use Rattle.layout.specs.Table.{Slot, slot, count, place}
 use Rattle.layout.specs.Memory.{cell, mem-past, Ranged}
 use Rattle.layout.specs.Writes.{State}
 use Rattle.state.specs.Fields.{layout1, counts, most_of}
-use Rattle.state.specs.Places.{sizes_in, cell_in}
+use Rattle.state.specs.Places.{sizes_in, total_in, mem_in, cell_in}
 use Rattle.state.specs.declared.Sizes.{Sizes}
-use Rattle.rules.specs.Code.{Long, mem_in}
 use Rattle.bounds.specs.Column.{Column, Within}
-use Rattle.bounds.specs.Groups.{All, heads, ends, links, states, locks, timers, cells, Answers, group_out}
+use Rattle.bounds.specs.Groups.{All, heads, ends, links, states, locks, timers, cells}
 
 -- The bytes are below 256.
 abbrev pub Bytes : List ℕ → Type 0
@@ -30,7 +29,7 @@ pub record Groups (z : Sizes) (s : List ℕ) : Type 0 where
   pub cells : All z s (cells z)
 
 pub groups_of : {z : Sizes} {s : List ℕ} → StateIn z s → Groups z s
-unfolding Ranged
+unfolding Ranged All Within
 groups_of {z} {s} t =
     let r : (f i : ℕ) → mem_in z s f i ≤ most_of (sizes_in z) f = t.ranged in
     record {
@@ -59,7 +58,7 @@ past_end
     → count layout1 (counts (sizes_in z)) c.place.region ≡ c.records
     → (i : ℕ)
     → cell_in z s c.place i ≤ c.most
-unfolding cell
+unfolding cell Within
 past_end z s c h e i = go (ltb i (count layout1 (counts (sizes_in z)) c.place.region)) refl
   where
     go
@@ -87,6 +86,7 @@ FieldFits z s f = (i : ℕ) → mem_in z s f i ≤ most_of (sizes_in z) f
 
 -- The table, field by field.
 each-field : (z : Sizes) (s : List ℕ) → Bytes s → Groups z s → Upto (FieldFits z s) 53
+unfolding All
 each-field z s b h =
     let t0 : Upto (FieldFits z s) 0 = tt in
     let t1 : Upto (FieldFits z s) 1 = (t0, whole z s b (slot 0 0 8) refl) in
@@ -144,20 +144,14 @@ each-field z s b h =
     let t53 : Upto (FieldFits z s) 53 = (t52, whole z s b (slot 11 0 8) refl) in
     t53
 
-pub state_of_lem : {z : Sizes} {s : List ℕ} → Long z s → Bytes s → Groups z s → StateIn z s
+pub state_of_lem : {z : Sizes} {s : List ℕ} → total_in z ≤ length s → Bytes s → Groups z s → StateIn z s
 unfolding Ranged
-state_of_lem {z} {s} l b h = record { long = l.long; ranged = λ f i. go f i (ltb f 53) refl }
+state_of_lem {z} {s} l b h = record { long = l; ranged = λ f i. go f i (ltb f 53) refl }
   where
     go : (f i : ℕ) (t : Bool) → ltb f 53 ≡ t → mem_in z s f i ≤ most_of (sizes_in z) f
     go f i true e = upto_at (FieldFits z s) 53 (each-field z s b h) f (ltb-true f 53 e) i
     go f i false e = omega (arith, mem-past layout1 (counts (sizes_in z)) s f i (ltb-false f 53 e))
 
--- Where a group is not within, the state is not in range.
-pub group_no
-    : {z : Sizes} {s : List ℕ} {cs : List Column} {t : Bool}
-    → Answers z s cs t
-    → not t ≡ true
-    → (Groups z s → All z s cs)
-    → StateIn z s
-    → ⊥
-group_no h e f x = group_out h e (f (groups_of x))
+-- So the groups answer for the state.
+pub groups-decide : {z : Sizes} {s : List ℕ} {t : Bool} → total_in z ≤ length s → Bytes s → IsTrue t ↔ Groups z s → IsTrue t ↔ StateIn z s
+groups-decide l b d = (λ e. state_of_lem l b (d.0 e), λ x. d.1 (groups_of x))

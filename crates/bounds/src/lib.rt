@@ -1,220 +1,163 @@
 // Whether every field of a state is in range.
 #![tactic(auto)]
 
-ghost use Rattle.layout.specs.Table.{slot};
-ghost use Rattle.rules.specs.Code.{Long, Decides};
-ghost use Rattle.bounds.specs.Column.{column, Asks, Tested};
-ghost use Rattle.bounds.specs.Groups.{Answers, heads, ends, links, states, locks, timers, cells};
-ghost use Rattle.bounds.specs.InRange.{StateIn};
+ghost use Rattle.std.specs.Prelude.{◌≡◌, ◌↔◌, IsTrue, IsSome, IfSome};
+ghost use Rattle.machine.specs.Good.{SizesInRange};
+ghost use Rattle.state.specs.Places.{sizes_in};
+ghost use Rattle.state.specs.Regions.{slot_of};
+ghost use Rattle.rules.specs.Code.{Long};
+ghost use Rattle.bounds.specs.Column.{Asks, column_at, Within};
+ghost use Rattle.bounds.specs.Groups.{All, heads, ends, links, states, locks, timers, cells};
+ghost use Rattle.bounds.specs.InRange.{StateIn, Groups};
 
-use state::{Index, Sizes};
+use memory::Number;
+use rules::Checked;
+use state::field::{self, Field};
+use state::{Index, Sizes, View};
 
-// Is a field of 8 bits at most `most` in each of the first `n` records?
-fn bytes_within(s: &[u8], z: Sizes, region: u8, inner: u8, n: Index, most: u8) -> bool
-    requires { Asks z s.now (slot region inner 1) n }
-    ensures { Tested z s.now (column region inner 1 n most) result }
+// Is a field at most `most` in each of the first `n` records? Tried as `(0..n).all(..)`, which took half as long again.
+fn within<T: Number>(v: &View, f: Field<T>, n: Index, most: u64) -> bool
+    requires { Asks v.now.sizes v.now.bytes.now (slot_of f T.width) n }
+    ensures { IsTrue result ↔ Within v.now.sizes v.now.bytes.now (column_at (slot_of f T.width) n most) }
 {
-    let mut i: Index = 0;
-    while i < n {
-        let v = state::get8(s, z, region, inner, i);
-        if most < v {
+    for i in 0..n {
+        if v.get(f, i).value() > most {
             return false;
         }
-        i += 1;
-    }
-    true
-}
-
-// Is a field of 16 bits at most `most` in each of the first `n` records?
-fn halves_within(s: &[u8], z: Sizes, region: u8, inner: u8, n: Index, most: u16) -> bool
-    requires { Asks z s.now (slot region inner 2) n }
-    ensures { Tested z s.now (column region inner 2 n most) result }
-{
-    let mut i: Index = 0;
-    while i < n {
-        let v = state::get16(s, z, region, inner, i);
-        if most < v {
-            return false;
-        }
-        i += 1;
-    }
-    true
-}
-
-// Is a field of 64 bits at most `most` in each of the first `n` records?
-fn words_within(s: &[u8], z: Sizes, region: u8, inner: u8, n: Index, most: u64) -> bool
-    requires { Asks z s.now (slot region inner 8) n }
-    ensures { Tested z s.now (column region inner 8 n most) result }
-{
-    let mut i: Index = 0;
-    while i < n {
-        let v = state::get64(s, z, region, inner, i);
-        if most < v {
-            return false;
-        }
-        i += 1;
     }
     true
 }
 
 // The header's links to who runs, to the run queue and to the timer queue.
-fn heads_within(s: &[u8], z: Sizes) -> bool
-    requires { Long z s.now }
-    ensures { Answers z s.now (heads z) result }
+#[tactic(auto, unfolding(crate::specs::Groups::All))]
+fn heads_within(v: &View) -> bool
+    requires { SizesInRange (sizes_in v.now.sizes) }
+    ensures { IsTrue result ↔ All v.now.sizes v.now.bytes.now (heads v.now.sizes) }
 {
-    let p = z.processes;
-    let t = z.timers + p;
-    if !halves_within(s, z, state::HEADER, state::UP, 1, p) {
-        return false;
-    }
-    if !halves_within(s, z, state::HEADER, state::RUN_HEAD, 1, p) {
-        return false;
-    }
-    if !halves_within(s, z, state::HEADER, state::RUN_TAIL, 1, p) {
-        return false;
-    }
-    halves_within(s, z, state::HEADER, state::TIMER_HEAD, 1, t)
+    let p = v.sizes.processes as u64;
+    let t = v.sizes.timers as u64 + p;
+    within(v, field::UP, 1, p)
+        && (within(v, field::RUN_HEAD, 1, p)
+            && (within(v, field::RUN_TAIL, 1, p) && within(v, field::TIMER_HEAD, 1, t)))
 }
 
 // The header's links to the living by age.
-fn ends_within(s: &[u8], z: Sizes) -> bool
-    requires { Long z s.now }
-    ensures { Answers z s.now (ends z) result }
+#[tactic(auto, unfolding(crate::specs::Groups::All))]
+fn ends_within(v: &View) -> bool
+    requires { SizesInRange (sizes_in v.now.sizes) }
+    ensures { IsTrue result ↔ All v.now.sizes v.now.bytes.now (ends v.now.sizes) }
 {
-    let p = z.processes;
-    if !halves_within(s, z, state::HEADER, state::OLDEST, 1, p) {
-        return false;
-    }
-    halves_within(s, z, state::HEADER, state::YOUNGEST, 1, p)
+    let p = v.sizes.processes as u64;
+    within(v, field::OLDEST, 1, p) && within(v, field::YOUNGEST, 1, p)
 }
 
 // The links of the process records.
-fn links_within(s: &[u8], z: Sizes) -> bool
-    requires { Long z s.now }
-    ensures { Answers z s.now (links z) result }
+#[tactic(auto, unfolding(crate::specs::Groups::All))]
+fn links_within(v: &View) -> bool
+    requires { SizesInRange (sizes_in v.now.sizes) }
+    ensures { IsTrue result ↔ All v.now.sizes v.now.bytes.now (links v.now.sizes) }
 {
-    let p = z.processes;
-    if !halves_within(s, z, state::PROCESS, state::NEXT, p, p) {
-        return false;
-    }
-    if !halves_within(s, z, state::PROCESS, state::OLDER, p, p) {
-        return false;
-    }
-    if !halves_within(s, z, state::PROCESS, state::YOUNGER, p, p) {
-        return false;
-    }
-    halves_within(s, z, state::PROCESS, state::PARENT_AT, p, p)
+    let n = v.sizes.processes;
+    let p = n as u64;
+    within(v, field::NEXT, n, p)
+        && (within(v, field::OLDER, n, p)
+            && (within(v, field::YOUNGER, n, p) && within(v, field::PARENT_AT, n, p)))
 }
 
 // Their exits, and where they stand.
-fn states_within(s: &[u8], z: Sizes) -> bool
-    requires { Long z s.now }
-    ensures { Answers z s.now (states z) result }
+#[tactic(auto, unfolding(crate::specs::Groups::All))]
+fn states_within(v: &View) -> bool
+    requires { SizesInRange (sizes_in v.now.sizes) }
+    ensures { IsTrue result ↔ All v.now.sizes v.now.bytes.now (states v.now.sizes) }
 {
-    let p = z.processes;
-    let c = z.cells;
-    if !halves_within(s, z, state::PROCESS, state::EXITS, p, c) {
-        return false;
-    }
-    if !bytes_within(s, z, state::PROCESS, state::NEXITS, p, 128) {
-        return false;
-    }
-    if !bytes_within(s, z, state::PROCESS, state::STATE_OF, p, state::ASLEEP) {
-        return false;
-    }
-    bytes_within(s, z, state::PROCESS, state::RESUME_KIND, p, state::WAIT)
+    let n = v.sizes.processes;
+    let c = v.sizes.cells as u64;
+    within(v, field::EXITS, n, c)
+        && (within(v, field::NEXITS, n, 128)
+            && (within(v, field::STATE_OF, n, 3) && within(v, field::RESUME_KIND, n, 4)))
 }
 
 // Rendez and locks.
-fn locks_within(s: &[u8], z: Sizes) -> bool
-    requires { Long z s.now }
-    ensures { Answers z s.now (locks z) result }
+#[tactic(auto, unfolding(crate::specs::Groups::All))]
+fn locks_within(v: &View) -> bool
+    requires { SizesInRange (sizes_in v.now.sizes) }
+    ensures { IsTrue result ↔ All v.now.sizes v.now.bytes.now (locks v.now.sizes) }
 {
-    let p = z.processes;
-    let r = z.rendez;
-    let q = z.locks;
-    if !halves_within(s, z, state::RENDEZ, state::SLEEPER_OF, r, p) {
-        return false;
-    }
-    if !halves_within(s, z, state::LOCK, state::HELD, q, 1) {
-        return false;
-    }
-    if !halves_within(s, z, state::LOCK, state::LOCK_HEAD, q, p) {
-        return false;
-    }
-    halves_within(s, z, state::LOCK, state::LOCK_TAIL, q, p)
+    let p = v.sizes.processes as u64;
+    let q = v.sizes.locks;
+    within(v, field::SLEEPER_OF, v.sizes.rendez, p)
+        && (within(v, field::HELD, q, 1)
+            && (within(v, field::LOCK_HEAD, q, p) && within(v, field::LOCK_TAIL, q, p)))
 }
 
 // Timers.
-fn timers_within(s: &[u8], z: Sizes) -> bool
-    requires { Long z s.now }
-    ensures { Answers z s.now (timers z) result }
+#[tactic(auto, unfolding(crate::specs::Groups::All))]
+fn timers_within(v: &View) -> bool
+    requires { SizesInRange (sizes_in v.now.sizes) }
+    ensures { IsTrue result ↔ All v.now.sizes v.now.bytes.now (timers v.now.sizes) }
 {
-    let t = z.timers + z.processes;
-    let r = z.rendez - 1;
-    if !words_within(
-        s,
-        z,
-        state::TIMER,
-        state::PERIOD,
-        t,
-        9_223_372_036_854_775_807,
-    ) {
-        return false;
-    }
-    if !halves_within(s, z, state::TIMER, state::TIMER_RENDEZ, t, r) {
-        return false;
-    }
-    if !halves_within(s, z, state::TIMER_LINK, state::TIMER_NEXT, t, t) {
-        return false;
-    }
-    bytes_within(s, z, state::TIMER, state::IS_QUEUED, t, 1)
+    let n = v.sizes.timers + v.sizes.processes;
+    let t = n as u64;
+    let r = v.sizes.rendez as u64 - 1;
+    within(v, field::PERIOD, n, 9_223_372_036_854_775_807)
+        && (within(v, field::TIMER_RENDEZ, n, r)
+            && (within(v, field::TIMER_NEXT, n, t) && within(v, field::IS_QUEUED, n, 1)))
 }
 
 // Message cells, and the conditions.
-fn cells_within(s: &[u8], z: Sizes) -> bool
-    requires { Long z s.now }
-    ensures { Answers z s.now (cells z) result }
+#[tactic(auto, unfolding(crate::specs::Groups::All))]
+fn cells_within(v: &View) -> bool
+    requires { SizesInRange (sizes_in v.now.sizes) }
+    ensures { IsTrue result ↔ All v.now.sizes v.now.bytes.now (cells v.now.sizes) }
 {
-    let p = z.processes;
-    let c = z.cells;
-    if !halves_within(s, z, state::CELL, state::CELL_NEXT, c, c) {
-        return false;
-    }
-    if !halves_within(s, z, state::CELL, state::OWNER, c, p) {
-        return false;
-    }
-    if !bytes_within(s, z, state::CELL, state::MESSAGE_LENGTH, c, 127) {
-        return false;
-    }
-    bytes_within(s, z, state::CONDITION, 0, 256, 1)
+    let n = v.sizes.cells;
+    let p = v.sizes.processes as u64;
+    within(v, field::CELL_NEXT, n, n as u64)
+        && (within(v, field::OWNER, n, p)
+            && (within(v, field::MESSAGE_LENGTH, n, 127)
+                && within(v, field::CONDITION_BIT, 256, 1)))
+}
+
+// Is each group of fields in range?
+fn groups_within(v: &View) -> bool
+    requires { SizesInRange (sizes_in v.now.sizes) }
+    ensures { IsTrue result ↔ Groups v.now.sizes v.now.bytes.now }
+{
+    heads_within(v)
+        && (ends_within(v)
+            && (links_within(v)
+                && (states_within(v)
+                    && (locks_within(v) && (timers_within(v) && cells_within(v))))))
+}
+
+// Is every field of these bytes in range? A function of the slice itself, since its bytes are then known to be bytes.
+fn bytes_within(s: &[u8], z: Sizes) -> bool
+    requires { Long z s.now }
+    ensures { IsTrue result ↔ StateIn z s.now }
+{
+    groups_within(&View { bytes: s, sizes: z })
 }
 
 // Is every field in range?
-pub fn in_range(s: &[u8], z: Sizes) -> bool
-    requires { Long z s.now }
-    ensures { Decides result (StateIn z s.now) }
+pub fn in_range(v: &View) -> bool
+    requires { SizesInRange (sizes_in v.now.sizes) }
+    ensures { IsTrue result ↔ StateIn v.now.sizes v.now.bytes.now }
 {
-    if !heads_within(s, z) {
-        return false;
+    bytes_within(v.bytes, v.sizes)
+}
+
+// The state with every field in range; none where some field is not.
+pub fn checked<'a>(v: &View<'a>) -> Option<Checked<'a>>
+    requires { SizesInRange (sizes_in v.now.sizes) }
+    ensures exact { IsSome result ↔ StateIn v.now.sizes v.now.bytes.now }
+    ensures same { IfSome result (λ c. (c.bytes.now ≡ v.now.bytes.now) × (c.sizes ≡ v.now.sizes)) }
+{
+    if in_range(v) {
+        Some(Checked {
+            bytes: v.bytes,
+            sizes: v.sizes,
+        })
+    } else {
+        None
     }
-    if !ends_within(s, z) {
-        return false;
-    }
-    if !links_within(s, z) {
-        return false;
-    }
-    if !states_within(s, z) {
-        return false;
-    }
-    if !locks_within(s, z) {
-        return false;
-    }
-    if !timers_within(s, z) {
-        return false;
-    }
-    if !cells_within(s, z) {
-        return false;
-    }
-    true
 }

@@ -8,11 +8,8 @@ ghost use Rattle.clock.specs.Counts.{counts_of, valid_duration, zero_duration, s
 // Nanoseconds in a second.
 const SECOND: u64 = 1_000_000_000;
 
-// The limit of a number of counts, 2^64 - 1.
-const MOST: u64 = 18_446_744_073_709_551_615;
-
 // A length of time: seconds and nanoseconds.
-#[derive(Clone, Copy)]
+#[derive(Clone, Copy, Debug, PartialEq, Eq)]
 pub struct Duration {
     pub secs: u64,
     pub nanos: u32,
@@ -23,7 +20,7 @@ impl Duration {
     pub fn valid(self) -> bool
         ensures { result ≡ valid_duration self.secs self.nanos }
     {
-        self.nanos < 1_000_000_000
+        (self.nanos as u64) < SECOND
     }
 
     // Does it take no time?
@@ -34,6 +31,7 @@ impl Duration {
     }
 
     // Does it take less time than `other`?
+    // Two durations of the same length may differ in their seconds, so no derived order answers this.
     // No 32-bit number of nanoseconds makes up for five seconds, so the sums are made below that only.
     pub fn shorter_than(self, other: Duration) -> bool
         ensures { result ≡ shorter self.secs self.nanos other.secs other.nanos }
@@ -50,20 +48,12 @@ impl Duration {
 
     // The counts that it takes at `hz` counts a second, rounded up, so that a deadline is never early.
     // The counts of the nanoseconds always fit.
-    // Where they leave no room for those of the seconds, the answer is the limit.
+    // Where the sum with those of the seconds does not, the answer is the limit, 2^64 - 1.
     pub fn to_counts(self, hz: u32) -> u64
         ensures { result ≡ counts_of hz self.secs self.nanos }
     {
         let hz = hz as u64;
-        let secs = self.secs;
-        if hz == 0 {
-            return 0;
-        }
-        let part = (self.nanos as u64 * hz + 999_999_999) / SECOND;
-        let room = MOST - part;
-        if secs > room / hz {
-            return MOST;
-        }
-        secs * hz + part
+        let part = (self.nanos as u64 * hz).div_ceil(SECOND);
+        self.secs.saturating_mul(hz).saturating_add(part)
     }
 }

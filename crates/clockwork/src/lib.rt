@@ -1,8 +1,10 @@
 // Ticks, readings of the clock, what timers do, quanta and conditions on the lent state.
 #![tactic(auto)]
 
-ghost use Rattle.std.specs.Prelude.{◌≡◌};
-ghost use Rattle.lists.specs.Lists.{bit};
+pub mod conditions;
+pub mod quantum;
+pub mod time;
+
 ghost use Rattle.machine.specs.Update.{with_last_now, with_setting, with_condition};
 ghost use Rattle.state.specs.Places.{mem_in};
 ghost use Rattle.timer.specs.Only.{Owing};
@@ -14,17 +16,19 @@ ghost use Rattle.clockwork.specs.Quantum.{quantum_stores, dispatched, QuantumAsk
 ghost use Rattle.clockwork.specs.Preempt.{PreemptDue};
 ghost use Rattle.clockwork.specs.Conditions.{Condition, condition_stores};
 
-use state::{Index, Sizes};
+use state::{Index, Sizes, State, View};
 
 // The last reading of the clock that is accepted, 2^51 - 1.
 pub const MOST_NOW: u64 = 2_251_799_813_685_247;
+
+// The same for callers that hold the bytes and the sizes apart.
 
 // Clock ticks.
 pub fn ticks(s: &[u8], z: Sizes) -> u64
     requires { Owing z s.now }
     ensures { Ticks z s.now result }
 {
-    state::get64(s, z, state::HEADER, state::TICKS, 0)
+    time::ticks(&View { bytes: s, sizes: z })
 }
 
 // One tick of the clock.
@@ -32,8 +36,7 @@ pub fn tick(s: &mut [u8], z: Sizes)
     requires { TickAsks z s.old }
     ensures { Became z s.old s.new (tick_stores (mem_in z s.old)) (ticked (machine_in z s.old)) }
 {
-    let ticks = state::get64(s, z, state::HEADER, state::TICKS, 0);
-    state::set64(s, z, state::HEADER, state::TICKS, 0, ticks + 1);
+    time::tick(&mut State { bytes: s, sizes: z });
 }
 
 // The clock was read.
@@ -41,7 +44,7 @@ pub fn set_now(s: &mut [u8], z: Sizes, reading: u64)
     requires { Owing z s.old }
     ensures { Became z s.old s.new (now_stores reading) (with_last_now reading (machine_in z s.old)) }
 {
-    state::set64(s, z, state::HEADER, state::LAST_NOW, 0, reading);
+    time::set_now(&mut State { bytes: s, sizes: z }, reading);
 }
 
 // What kernel timer `t` does: its period in counts, 0 where it fires once, and the Rendez it wakes.
@@ -49,8 +52,7 @@ pub fn set_timer(s: &mut [u8], z: Sizes, t: Index, period: u64, rendez: Index)
     requires { SettingAsks z s.old t period rendez }
     ensures { Became z s.old s.new (setting_stores t period rendez) (with_setting t (setting_of period rendez) (machine_in z s.old)) }
 {
-    state::set64(s, z, state::TIMER, state::PERIOD, t, period);
-    state::set16(s, z, state::TIMER, state::TIMER_RENDEZ, t, rendez);
+    time::set_timer(&mut State { bytes: s, sizes: z }, t, period, rendez);
 }
 
 // The quantum of record `i`, which is dispatched, ends ten ticks from now.
@@ -58,8 +60,7 @@ pub fn set_quantum_end(s: &mut [u8], z: Sizes, i: Index)
     requires { QuantumAsks z s.old i }
     ensures { Became z s.old s.new (quantum_stores (mem_in z s.old) i) (dispatched i (machine_in z s.old)) }
 {
-    let ticks = state::get64(s, z, state::HEADER, state::TICKS, 0);
-    state::set64(s, z, state::PROCESS, state::QUANTUM_END, i, ticks + 10);
+    quantum::set_end(&mut State { bytes: s, sizes: z }, i);
 }
 
 // Whether the process that runs should yield: its quantum is over, and another is ready.
@@ -67,34 +68,15 @@ pub fn preempt_due(s: &[u8], z: Sizes) -> bool
     requires { Owing z s.now }
     ensures { PreemptDue z s.now result }
 {
-    let up = state::get16(s, z, state::HEADER, state::UP, 0);
-    if up == 0 {
-        return false;
-    }
-    let end = state::get64(s, z, state::PROCESS, state::QUANTUM_END, up - 1);
-    let ticks = state::get64(s, z, state::HEADER, state::TICKS, 0);
-    if ticks < end {
-        return false;
-    }
-    state::get16(s, z, state::HEADER, state::RUN_HEAD, 0) != 0
+    quantum::preempt_due(&View { bytes: s, sizes: z })
 }
-
-// Where the bit lies of a condition.
-const BIT: u8 = 0;
 
 // Whether condition `c` is true.
 pub fn condition(s: &[u8], z: Sizes, c: u8) -> bool
     requires { Owing z s.now }
     ensures { Condition z s.now c result }
 {
-    state::get8(s, z, state::CONDITION, BIT, c as Index) != 0
-}
-
-// 1 for true, 0 for false.
-fn bit_of(v: bool) -> u8
-    ensures { result ≡ bit v }
-{
-    if v { 1 } else { 0 }
+    conditions::holds(&View { bytes: s, sizes: z }, c)
 }
 
 // Makes condition `c` true or false.
@@ -102,5 +84,5 @@ pub fn set_condition(s: &mut [u8], z: Sizes, c: u8, v: bool)
     requires { Owing z s.old }
     ensures { Became z s.old s.new (condition_stores c v) (with_condition c v (machine_in z s.old)) }
 {
-    state::set8(s, z, state::CONDITION, BIT, c as Index, bit_of(v));
+    conditions::set(&mut State { bytes: s, sizes: z }, c, v);
 }

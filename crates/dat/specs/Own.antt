@@ -1,6 +1,6 @@
 -- Who runs, and where a call goes on: what `stop`, `run` and `set_resume` ask and ensure.
-use Rattle.std.specs.Prelude.{◌≡◌, refl, List, [], ◌∷◌, ℕ, suc, ◌+◌, ◌≤◌, ◌<◌}
-use Rattle.std.proofs.Common.{sym, ap, subst, ◌∙◌, arith, add-one}
+use Rattle.std.specs.Prelude.{◌≡◌, refl, List, [], ◌∷◌, ℕ, suc, ◌≤◌, ◌<◌}
+use Rattle.std.proofs.Common.{sym, ap, subst, ◌∙◌, arith}
 use Rattle.std.proofs.Math.Option.{none, some}
 use Rattle.machine.specs.Machine as machine
 use Rattle.machine.specs.Machine.{process}
@@ -65,13 +65,13 @@ run-low {i = i} a = inside (holds-bounds a.holds) fields.pid i a.nowhere.used
 pub run_small : {z : Sizes} {s : List ℕ} {i : ℕ} → RunAsks z s i → i < 4096
 run_small a = omega (arith, run-low a, a.holds.sizes.processes.1)
 
-pub ran : {z : Sizes} {s s₁ s₂ : List ℕ} {i : ℕ} → RunAsks z s i → PutIn z s s₁ (slot 0 26 2) 0 (i + 1) → PutIn z s₁ s₂ (slot 1 37 1) i 1 → Ran z s s₂ i
+pub ran : {z : Sizes} {s s₁ s₂ : List ℕ} {i : ℕ} → RunAsks z s i → PutIn z s s₁ (slot 0 26 2) 0 (suc i) → PutIn z s₁ s₂ (slot 1 37 1) i 1 → Ran z s s₂ i
 unfolding used_by
 ran {z} {s} {s₁} {s₂} {i} a p₁ p₂ =
     record {
       did =
           did (to fields.up 0 (suc i) ∷ to fields.state_of i 1 ∷ []) (run_mem (mem_in z s) i) (with_up (some i) (machine_in z s)) a.holds
-          (rw add-one at (wrote_2 {z = z} {f₁ = fields.up} {f₂ = fields.state_of} p₁ p₂).bytes)
+          (wrote_2 {z = z} {f₁ = fields.up} {f₂ = fields.state_of} p₁ p₂).bytes
           (record { listed = omega arith; index = omega arith }, run-low a, (record { listed = omega arith; index = run-low a }, omega arith, tt))
           refl
           (λ n k. keeps_with (others k) (run-placed k.placed a.nowhere))

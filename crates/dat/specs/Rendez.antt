@@ -1,6 +1,6 @@
 -- Rendez: what `wakeup` and `sleep_on` ask and ensure.
-use Rattle.std.specs.Prelude.{◌≡◌, refl, List, [], ◌∷◌, ℕ, zero, suc, ◌+◌, ◌-◌, ◌≤◌, ◌<◌}
-use Rattle.std.proofs.Common.{sym, ap, subst, ◌∙◌, arith, add-one}
+use Rattle.std.specs.Prelude.{◌≡◌, refl, List, [], ◌∷◌, ℕ, zero, suc, ◌≤◌, ◌<◌}
+use Rattle.std.proofs.Common.{sym, ap, subst, ◌∙◌, arith}
 use Rattle.std.proofs.Math.Option.{none, some}
 use Rattle.machine.specs.Machine.{Machine, sleeper, pid_of}
 use Rattle.machine.specs.Update.{with_sleeper}
@@ -106,33 +106,27 @@ taken-off {z} {s} {s₁} {r} {i} a e p =
       nowhere = subst (λ (k : Memory). Nowhere (sizes_in z) k i) (sym d.memory) (woken-nowhere b a.holds.keeps.placed e);
     }
 
-link-suc : (l : ℕ) → (l ≡ 0 → ⊥) → l ≡ suc (l - 1)
-link-suc l ne = omega arith
-
 pub wake-awaken
-    : {z : Sizes} {s s₁ : List ℕ} {r l : ℕ}
+    : {z : Sizes} {s s₁ : List ℕ} {r i : ℕ}
     → WakeAsks z s r
-    → l ≡ mem_in z s fields.sleeper_of r
-    → (l ≡ 0 → ⊥)
+    → suc i ≡ mem_in z s fields.sleeper_of r
     → PutIn z s s₁ (slot 3 0 2) r 0
-    → AwakenAsks z s₁ (l - 1)
-wake-awaken {z} {s} {s₁} {r} {l} a e ne p =
-    let t : TakenOff z s s₁ r (l - 1) = taken-off a (sym e ∙ link-suc l ne) p in
+    → AwakenAsks z s₁ i
+wake-awaken {z} {s} {s₁} {r} {i} a e p =
+    let t : TakenOff z s s₁ r i = taken-off a (sym e) p in
     record { owed = a.owed; holds = t.did.holds a.owed a.holds; nowhere = t.nowhere }
 
 -- Somebody does.
 pub woke_one
-    : {z : Sizes} {s s₁ s₂ : List ℕ} {r l : ℕ}
+    : {z : Sizes} {s s₁ s₂ : List ℕ} {r i : ℕ}
     → WakeAsks z s r
-    → l ≡ mem_in z s fields.sleeper_of r
-    → (l ≡ 0 → ⊥)
+    → suc i ≡ mem_in z s fields.sleeper_of r
     → PutIn z s s₁ (slot 3 0 2) r 0
-    → Awakened z s₁ s₂ (l - 1)
-    → Woke z s s₂ r l
-woke_one {z} {s} {s₁} {s₂} {r} {l} a e ne p w =
-    let i : ℕ = l - 1 in
+    → Awakened z s₁ s₂ i
+    → Woke z s s₂ r (suc i)
+woke_one {z} {s} {s₁} {s₂} {r} {i} a e p w =
     let m : Memory = mem_in z s in
-    let x : m fields.sleeper_of r ≡ suc i = sym e ∙ link-suc l ne in
+    let x : m fields.sleeper_of r ≡ suc i = sym e in
     let t : TakenOff z s s₁ r i = taken-off a x p in
     let o : sleeper (machine_in z s) r ≡ some i = sleeper_of_lem (holds-bounds a.holds) r ∙ rw x in
     let d : Did z s s₂ same same (wake_stores m r i) (wake_mem m r i) (ready i (with_sleeper r none (machine_in z s))) =
@@ -143,14 +137,11 @@ woke_one {z} {s} {s₁} {s₂} {r} {l} a e ne p w =
     in
     record {
       answer = e;
-      nobody = λ y. absurd (ne y);
+      nobody = λ y. absurd (omega (arith, y));
       somebody = λ j y. subst (λ (k : ℕ). Did z s s₂ same same (wake_stores m r k) (wake_mem m r k) (ready k (with_sleeper r none (machine_in z s)))) (omega (arith, y)) d;
       holds = d.holds;
       machine = d.machine ∙ sym (wake-some (machine_in z s) r i o).0;
-      readied =
-          ap (pids_of m) (link-suc l ne)
-          ∙ ap (λ (k : ℕ). k ∷ []) (sym (pid_of_lem (holds-bounds a.holds) i))
-          ∙ sym (wake-some (machine_in z s) r i o).1;
+      readied = ap (λ (k : ℕ). k ∷ []) (sym (pid_of_lem (holds-bounds a.holds) i)) ∙ sym (wake-some (machine_in z s) r i o).1;
       range = omega (arith, e, at_most (holds-bounds a.holds) fields.sleeper_of r);
       touched = touched-did d (same_use refl refl refl refl refl refl refl refl refl);
     }
@@ -187,7 +178,7 @@ pub slept
     : {z : Sizes} {s s₁ s₂ s₃ : List ℕ} {i r : ℕ}
     → SleepAsks z s i r
     → More z s s₁
-    → PutIn z s₁ s₂ (slot 3 0 2) r (i + 1)
+    → PutIn z s₁ s₂ (slot 3 0 2) r (suc i)
     → PutIn z s₂ s₃ (slot 1 37 1) i 3
     → Slept z s s₃ i r
 unfolding used_by
@@ -204,7 +195,7 @@ slept {z} {s} {s₁} {s₂} {s₃} {i} {r} a o p₁ p₂ =
     let f : mem_in z s₁ fields.sleeper_of r ≡ 0 = ap (λ (k : Memory). k fields.sleeper_of r) e ∙ a.empty in
     let d : Did z s₁ s₃ more same (to fields.sleeper_of r (suc i) ∷ to fields.state_of i 3 ∷ []) (sleep_mem (mem_in z s₁) i r) (with_sleeper r (some i) (machine_in z s₁)) =
     did (to fields.sleeper_of r (suc i) ∷ to fields.state_of i 3 ∷ []) (sleep_mem (mem_in z s₁) i r) (with_sleeper r (some i) (machine_in z s₁)) h₁
-    (rw add-one at (wrote_2 {z = z} {f₁ = fields.sleeper_of} {f₂ = fields.state_of} p₁ p₂).bytes)
+    (wrote_2 {z = z} {f₁ = fields.sleeper_of} {f₂ = fields.state_of} p₁ p₂).bytes
     (record { listed = omega arith; index = a.index }, sleep-low a, (record { listed = omega arith; index = sleep-low a }, omega arith, tt))
     refl
     (λ n k. keeps_with (others k) (sleep-placed b k.placed w c a.index f))

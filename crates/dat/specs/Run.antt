@@ -13,36 +13,36 @@ use Rattle.state.specs.Places.{sizes_in, mem_in, PutIn, Wrote, wrote_join}
 use Rattle.state.specs.declared.Sizes.{Sizes}
 use Rattle.rules.specs.Code.{Long}
 use Rattle.exact.specs.Bounds.{InBounds, inside, at_most}
-use Rattle.queue.specs.declared.RunQueue.{RunQueue}
-use Rattle.queue.specs.declared.Popped.{Popped}
+use Rattle.queue.specs.Ends.{Ends, Popped}
+use Rattle.queue.specs.Held.{Held, HeldStored}
 use Rattle.queue.specs.List.{Linked, linked-run, list-run, empty-list}
 use Rattle.queue.specs.Push.{push_writes, push-writable, PushAsks, PushDone}
 use Rattle.queue.specs.Pop.{pop_writes, pop_head, PopAsks, PopDone}
 use Rattle.holds.specs.Holds.{Holds}
 use Rattle.holds.specs.Whole.{holds-bounds}
 use Rattle.holds.specs.Use.{used_by, EachInUse, before, in_use-runs}
-use Rattle.holds.specs.Did.{Did, did, machine_in, same, WritableIn, writes_in, wrote_1, wrote_2, writable_join}
+use Rattle.holds.specs.Did.{Did, did, machine_in, same, WritableIn, writes_in, wrote_1, writable_join}
 use Rattle.places.specs.Nowhere.{Nowhere}
 use Rattle.places.specs.Others.{others, keeps_with}
 use Rattle.places.specs.Stores.{run-last-used, push-in_use}
 use Rattle.places.specs.Run.{ready_mem, ready-machine, ready-placed, next_mem, next-machine, next-placed, next-nowhere}
 
 -- The queue as the header holds it.
-pub record RunLoaded (z : Sizes) (s : List ℕ) (q : RunQueue) : Type 0 where
+pub record RunLoaded (z : Sizes) (s : List ℕ) (q : Ends) : Type 0 where
   pub head : q.head ≡ mem_in z s fields.run_head 0
   pub tail : q.tail ≡ mem_in z s fields.run_tail 0
   pub asleep : q.asleep ≡ mem_in z s fields.asleep_count 0
 
 -- The stores of its first and last.
-abbrev pub run_stores : RunQueue → List Write
+abbrev pub run_stores : Ends → List Write
 run_stores q = to fields.run_head 0 q.head ∷ to fields.run_tail 0 q.tail ∷ []
 
-pub run-stored
-    : {z : Sizes} {s s₁ s₂ : List ℕ} {h t : ℕ}
-    → PutIn z s s₁ (slot 0 28 2) 0 h
-    → PutIn z s₁ s₂ (slot 0 30 2) 0 t
-    → Wrote z s s₂ (to fields.run_head 0 h ∷ to fields.run_tail 0 t ∷ [])
-run-stored p₁ p₂ = wrote_2 p₁ p₂
+-- What `queue::Fields` loads and stores at the header's fields.
+pub run-loaded : {z : Sizes} {s : List ℕ} {q : Ends} → Held z s (slot 0 28 2) (slot 0 30 2) 0 q → RunLoaded z s q
+run-loaded h = record { head = h.head; tail = h.tail; asleep = h.asleep }
+
+pub run-stored : {z : Sizes} {s s' : List ℕ} {q : Ends} → HeldStored z s s' (slot 0 28 2) (slot 0 30 2) 0 q → Wrote z s s' (run_stores q)
+run-stored h = record { bytes = h.bytes; long = h.long }
 
 -- The stores by which i is readied.
 abbrev pub ready_stores : Memory → ℕ → List Write
@@ -69,10 +69,10 @@ holds-long h = record { sizes = h.sizes; long = h.state.long }
 pub ready-long : {z : Sizes} {s : List ℕ} {i : ℕ} → ReadyAsks z s i → Long z s
 ready-long a = holds-long a.holds
 
-linked : {z : Sizes} {s : List ℕ} {n : ℕ} {q : RunQueue} → Holds z s n → RunLoaded z s q → Linked z (mem_in z s) q
+linked : {z : Sizes} {s : List ℕ} {n : ℕ} {q : Ends} → Holds z s n → RunLoaded z s q → Linked z (mem_in z s) q
 linked {z} {s} {n} {q} h l = linked-run z (mem_in z s) q l.head l.tail h.keeps.placed.run.queue
 
-pub ready-push : {z : Sizes} {s : List ℕ} {i : ℕ} {q : RunQueue} → ReadyAsks z s i → RunLoaded z s q → PushAsks z s q i
+pub ready-push : {z : Sizes} {s : List ℕ} {i : ℕ} {q : Ends} → ReadyAsks z s i → RunLoaded z s q → PushAsks z s q i
 ready-push {z} {s} {i} {q} a l =
     record {
       sizes = a.holds.sizes;
@@ -113,7 +113,7 @@ ready-updates m (suc t) i e =
 
 -- What the code of `ready` shows.
 pub readied
-    : {z : Sizes} {s s₁ s₂ s₃ : List ℕ} {i : ℕ} {q r : RunQueue}
+    : {z : Sizes} {s s₁ s₂ s₃ : List ℕ} {i : ℕ} {q r : Ends}
     → ReadyAsks z s i
     → RunLoaded z s q
     → PushDone z s s₁ q i r
@@ -131,9 +131,9 @@ readied {z} {s} {s₁} {s₂} {s₃} {i} {q} {r} a l d w p =
     (wrote_join z (run_stores r) (to fields.state_of i 2 ∷ []) w (wrote_1 p))
     in
     let h : r.head ≡ push_first (m fields.run_head 0) (m fields.run_tail 0) i =
-    ap (λ (x : RunQueue). x.head) d.queue ∙ ap₂ (λ (x y : ℕ). push_first x y i) l.head l.tail
+    ap (λ (x : Ends). x.head) d.queue ∙ ap₂ (λ (x y : ℕ). push_first x y i) l.head l.tail
     in
-    let t : r.tail ≡ suc i = ap (λ (x : RunQueue). x.tail) d.queue in
+    let t : r.tail ≡ suc i = ap (λ (x : Ends). x.tail) d.queue in
     record {
       did =
           did (ready_stores m i) (ready_mem m i) (ready i (machine_in z s)) a.holds
@@ -174,14 +174,14 @@ pub record NextTaken (z : Sizes) (s s' : List ℕ) (r : ℕ) : Type 0 where
 pub next-long : {z : Sizes} {s : List ℕ} → NextAsks z s → Long z s
 next-long a = holds-long a.holds
 
-pub next-pop : {z : Sizes} {s : List ℕ} {q : RunQueue} → NextAsks z s → RunLoaded z s q → PopAsks z s q
+pub next-pop : {z : Sizes} {s : List ℕ} {q : Ends} → NextAsks z s → RunLoaded z s q → PopAsks z s q
 next-pop a l = record { sizes = a.holds.sizes; state = a.holds.state; linked = linked a.holds l }
 
-pub pop-long : {z : Sizes} {s s₁ : List ℕ} {q : RunQueue} {t : Popped} → NextAsks z s → PopDone z s s₁ q t → Long z s₁
+pub pop-long : {z : Sizes} {s s₁ : List ℕ} {q : Ends} {t : Popped} → NextAsks z s → PopDone z s s₁ q t → Long z s₁
 pop-long a d = record { sizes = a.holds.sizes; long = d.state.long }
 
 -- What the code of `next_ready` shows: nobody is ready, or the first is taken off.
-pub next-none : {z : Sizes} {s s₁ : List ℕ} {q : RunQueue} {t : Popped} → NextAsks z s → RunLoaded z s q → PopDone z s s₁ q t → t.link ≡ 0 → NextTaken z s s₁ 0
+pub next-none : {z : Sizes} {s s₁ : List ℕ} {q : Ends} {t : Popped} → NextAsks z s → RunLoaded z s q → PopDone z s s₁ q t → t.link ≡ 0 → NextTaken z s s₁ 0
 next-none {z} {s} {s₁} {q} {t} a l d e =
     record {
       none = λ _. (
@@ -193,7 +193,7 @@ next-none {z} {s} {s₁} {q} {t} a l d e =
     }
 
 pub next_one
-    : {z : Sizes} {s s₁ s₂ : List ℕ} {q : RunQueue} {t : Popped}
+    : {z : Sizes} {s s₁ s₂ : List ℕ} {q : Ends} {t : Popped}
     → NextAsks z s
     → RunLoaded z s q
     → PopDone z s s₁ q t
@@ -224,11 +224,11 @@ next_one {z} {s} {s₁} {s₂} {q} {t} a l d ne w =
         first = record { bytes = d.bytes ∙ ap (λ (h : ℕ). writes_in z s (pop_writes h)) head; long = d.state.long }
 
         new_head : t.queue.head ≡ m fields.next i
-        new_head = ap (λ (x : RunQueue). x.head) d.queue ∙ ap (λ (h : ℕ). pop_head m h) head
+        new_head = ap (λ (x : Ends). x.head) d.queue ∙ ap (λ (h : ℕ). pop_head m h) head
 
         new_tail : t.queue.tail ≡ pop_last (m fields.next i) (m fields.run_tail 0)
         new_tail =
-            ap (λ (x : RunQueue). x.tail) d.queue ∙ ap₂ (λ (h y : ℕ). pop_last (pop_head m h) y) head l.tail
+            ap (λ (x : Ends). x.tail) d.queue ∙ ap₂ (λ (h y : ℕ). pop_last (pop_head m h) y) head l.tail
 
         all : Wrote z s s₂ (to fields.next i 0 ∷ run_stores t.queue)
         all = wrote_join z (to fields.next i 0 ∷ []) (run_stores t.queue) first w

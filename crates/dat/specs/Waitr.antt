@@ -1,7 +1,7 @@
 -- The own waitr: what `wait_on` and `wake_waitr` ask and ensure.
 use Rattle.std.specs.Prelude.{◌≡◌, refl, Bool, true, false, not, List, [], ◌∷◌, ℕ, suc, ◌<◌, eqb}
-use Rattle.std.proofs.Common.{sym, ap, subst, ◌∙◌, arith}
-use Rattle.std.proofs.lemmas.Bool.{not-true, not-false}
+use Rattle.std.proofs.Common.{sym, ap, subst, ◌∙◌, arith, ne_eqb}
+use Rattle.std.proofs.lemmas.Bool.{not-true}
 use Rattle.machine.specs.Machine.{Machine, process}
 use Rattle.machine.specs.Update.{with_process, with_on_waitr}
 use Rattle.machine.specs.Places.{ready}
@@ -84,8 +84,8 @@ own_stores m i = to fields.state_of i 2 ∷ awaken_stores m i
 pub record OnWaitr (z : Sizes) (s : List ℕ) (i : ℕ) (t : Bool) : Type 0 where
   pub answer : t ≡ waits_on (mem_in z s) i
 
-pub on-awake : {z : Sizes} {s : List ℕ} {i v : ℕ} → OwnAsks z s i → v ≡ mem_in z s fields.state_of i → (v ≡ 3 → ⊥) → OnWaitr z s i false
-on-awake {z} {s} {i} a e ne = record { answer = sym (waits-state (mem_in z s) i (λ d. ne (e ∙ d))) }
+pub on-awake : {z : Sizes} {s : List ℕ} {i v : ℕ} → OwnAsks z s i → v ≡ mem_in z s fields.state_of i → (v ≡ 3 → ⊥) → OnWaitr z s i (eqb v 3)
+on-awake {z} {s} {i} {v} a e ne = record { answer = ne_eqb v 3 ne ∙ sym (waits-state (mem_in z s) i (λ d. ne (e ∙ d))) }
 
 pub on_call
     : {z : Sizes} {s : List ℕ} {i v k : ℕ}
@@ -162,23 +162,23 @@ pub own-awaken
     : {z : Sizes} {s s₁ : List ℕ} {i : ℕ} {t : Bool}
     → OwnAsks z s i
     → OnWaitr z s i t
-    → not t ≡ false
+    → t ≡ true
     → PutIn z s s₁ (slot 1 37 1) i 2
     → AwakenAsks z s₁ i
 own-awaken {z} {s} {s₁} {i} {t} a o e p =
-    let u : OwnOff z s s₁ i = own-off a (sym o.answer ∙ not-false t e) p in
+    let u : OwnOff z s s₁ i = own-off a (sym o.answer ∙ e) p in
     record { owed = a.owed; holds = u.did.holds a.owed a.holds; nowhere = u.nowhere }
 
 pub own-woken
     : {z : Sizes} {s s₁ s₂ : List ℕ} {i : ℕ} {t : Bool}
     → OwnAsks z s i
     → OnWaitr z s i t
-    → not t ≡ false
+    → t ≡ true
     → PutIn z s s₁ (slot 1 37 1) i 2
     → Awakened z s₁ s₂ i
     → WokeOwn z s s₂ i true
 own-woken {z} {s} {s₁} {s₂} {i} {t} a v e p w =
-    let x : waits_on (mem_in z s) i ≡ true = sym v.answer ∙ not-false t e in
+    let x : waits_on (mem_in z s) i ≡ true = sym v.answer ∙ e in
     let u : OwnOff z s s₁ i = own-off a x p in
     let o : (process (machine_in z s) i).on_waitr ≡ true = waitr_of (holds-bounds a.holds) i (a.holds.keeps.placed.free i) ∙ x in
     let y : Did z s s₂ same same (own_stores (mem_in z s) i) (awaken_mem (state_mem (mem_in z s) i 2) i) (wake_waitr i (machine_in z s)).machine =

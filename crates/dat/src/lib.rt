@@ -1,39 +1,30 @@
 // The places of processes in the lent state: the run queue, who runs, Rendez and the own waitr.
 #![tactic(auto)]
 
-ghost use Rattle.state.specs.Places.{Wrote};
-ghost use Rattle.rules.specs.Code.{Long};
-ghost use Rattle.dat.specs.Run.{RunLoaded, run_stores, ReadyAsks, Readied, NextAsks, NextTaken};
-ghost use Rattle.dat.specs.Asleep.{LessAsks, Less, MoreAsks, More, AwakenAsks, Awakened};
+pub mod lent;
+
+ghost use Rattle.std.specs.Prelude.{◌≡◌};
+ghost use Rattle.memory.specs.Link.{link, IsLink};
+ghost use Rattle.dat.specs.Run.{ReadyAsks, Readied, NextAsks, NextTaken};
+ghost use Rattle.dat.specs.Asleep.{MoreAsks, More, AwakenAsks, Awakened};
 ghost use Rattle.dat.specs.Rendez.{WakeAsks, Woke, SleepAsks, Slept};
 ghost use Rattle.dat.specs.Own.{StopAsks, Stopped, RunAsks, Ran, CallAsks, Called};
-ghost use Rattle.dat.specs.Waitr.{WaitAsks, Waited, OwnAsks, OnWaitr, WokeOwn};
+ghost use Rattle.dat.specs.Waitr.{WaitAsks, Waited, OwnAsks, WokeOwn};
 
-use queue::RunQueue;
 use record::Resume;
-use state::{Count, Index, Sizes};
+use state::{Index, Link, Sizes, State};
 
-// The run queue, as the header holds it.
-fn load_run(s: &[u8], z: Sizes) -> RunQueue
-    requires { Long z s.now }
-    ensures { RunLoaded z s.now result }
+// The same for callers that hold the bytes and the sizes apart.
+
+// The number of a link.
+fn number(l: Link) -> Index
+    requires { IsLink l }
+    ensures { result ≡ link l }
 {
-    RunQueue {
-        head: state::get16(s, z, state::HEADER, state::RUN_HEAD, 0),
-        tail: state::get16(s, z, state::HEADER, state::RUN_TAIL, 0),
-        asleep: state::get16(s, z, state::HEADER, state::ASLEEP_COUNT, 0),
+    match l {
+        None => 0,
+        Some(i) => i + 1,
     }
-}
-
-// Stores the first and the last of the run queue.
-fn store_run(s: &mut [u8], z: Sizes, q: RunQueue)
-    requires { Long z s.old }
-    ensures { Wrote z s.old s.new (run_stores q) }
-{
-    let head = q.head;
-    let tail = q.tail;
-    state::set16(s, z, state::HEADER, state::RUN_HEAD, 0, head);
-    state::set16(s, z, state::HEADER, state::RUN_TAIL, 0, tail);
 }
 
 // Queues process `i` to run.
@@ -41,10 +32,7 @@ pub fn ready(s: &mut [u8], z: Sizes, i: Index)
     requires { ReadyAsks z s.old i }
     ensures { Readied z s.old s.new i }
 {
-    let old = load_run(s, z);
-    let new = queue::push(s, z, old, i);
-    store_run(s, z, new);
-    state::set8(s, z, state::PROCESS, state::STATE_OF, i, state::READY);
+    lent::ready(&mut State { bytes: s, sizes: z }, i);
 }
 
 // Takes the first process off the run queue: the link to it, 0 for none.
@@ -52,24 +40,7 @@ pub fn next_ready(s: &mut [u8], z: Sizes) -> Index
     requires { NextAsks z s.old }
     ensures { NextTaken z s.old s.new result }
 {
-    let old = load_run(s, z);
-    let taken = queue::pop(s, z, old);
-    let link = taken.link;
-    if link == 0 {
-        return 0;
-    }
-    let rest = taken.queue;
-    store_run(s, z, rest);
-    link
-}
-
-// One fewer is asleep.
-fn less_asleep(s: &mut [u8], z: Sizes)
-    requires { LessAsks z s.old }
-    ensures { Less z s.old s.new }
-{
-    let n: Count = state::get16(s, z, state::HEADER, state::ASLEEP_COUNT, 0);
-    state::set16(s, z, state::HEADER, state::ASLEEP_COUNT, 0, n - 1);
+    number(lent::next_ready(&mut State { bytes: s, sizes: z }))
 }
 
 // One more is asleep.
@@ -77,8 +48,7 @@ pub fn more_asleep(s: &mut [u8], z: Sizes)
     requires { MoreAsks z s.old }
     ensures { More z s.old s.new }
 {
-    let n: Count = state::get16(s, z, state::HEADER, state::ASLEEP_COUNT, 0);
-    state::set16(s, z, state::HEADER, state::ASLEEP_COUNT, 0, n + 1);
+    lent::more_asleep(&mut State { bytes: s, sizes: z });
 }
 
 // Makes process `i`, asleep or waiting for a lock and taken off there, ready.
@@ -86,8 +56,7 @@ pub fn awaken(s: &mut [u8], z: Sizes, i: Index)
     requires { AwakenAsks z s.old i }
     ensures { Awakened z s.old s.new i }
 {
-    less_asleep(s, z);
-    ready(s, z, i);
+    lent::awaken(&mut State { bytes: s, sizes: z }, i);
 }
 
 // Wakes the process asleep on Rendez `r`: the link to it, 0 for none.
@@ -95,13 +64,7 @@ pub fn wakeup(s: &mut [u8], z: Sizes, r: Index) -> Index
     requires { WakeAsks z s.old r }
     ensures { Woke z s.old s.new r result }
 {
-    let link = state::get16(s, z, state::RENDEZ, state::SLEEPER_OF, r);
-    if link == 0 {
-        return 0;
-    }
-    state::set16(s, z, state::RENDEZ, state::SLEEPER_OF, r, 0);
-    awaken(s, z, link - 1);
-    link
+    number(lent::wakeup(&mut State { bytes: s, sizes: z }, r))
 }
 
 // Puts process `i` asleep on Rendez `r`.
@@ -109,9 +72,7 @@ pub fn sleep_on(s: &mut [u8], z: Sizes, i: Index, r: Index)
     requires { SleepAsks z s.old i r }
     ensures { Slept z s.old s.new i r }
 {
-    more_asleep(s, z);
-    state::set16(s, z, state::RENDEZ, state::SLEEPER_OF, r, i + 1);
-    state::set8(s, z, state::PROCESS, state::STATE_OF, i, state::ASLEEP);
+    lent::sleep_on(&mut State { bytes: s, sizes: z }, i, r);
 }
 
 // Nobody runs: whoever ran is taken off.
@@ -119,7 +80,7 @@ pub fn stop(s: &mut [u8], z: Sizes)
     requires { StopAsks z s.old }
     ensures { Stopped z s.old s.new }
 {
-    state::set16(s, z, state::HEADER, state::UP, 0, 0);
+    lent::stop(&mut State { bytes: s, sizes: z });
 }
 
 // Process `i` runs.
@@ -127,8 +88,7 @@ pub fn set_up(s: &mut [u8], z: Sizes, i: Index)
     requires { RunAsks z s.old i }
     ensures { Ran z s.old s.new i }
 {
-    state::set16(s, z, state::HEADER, state::UP, 0, i + 1);
-    state::set8(s, z, state::PROCESS, state::STATE_OF, i, state::RUNNING);
+    lent::set_up(&mut State { bytes: s, sizes: z }, i);
 }
 
 // Where the call of process `i` goes on.
@@ -136,7 +96,7 @@ pub fn set_resume(s: &mut [u8], z: Sizes, i: Index, r: Resume)
     requires { CallAsks z s.old i r }
     ensures { Called z s.old s.new i r }
 {
-    record::store_resume(s, z, i, r);
+    lent::set_resume(&mut State { bytes: s, sizes: z }, i, r);
 }
 
 // Puts process `i` asleep on its own waitr.
@@ -144,21 +104,7 @@ pub fn wait_on(s: &mut [u8], z: Sizes, i: Index)
     requires { WaitAsks z s.old i }
     ensures { Waited z s.old s.new i }
 {
-    more_asleep(s, z);
-    state::set8(s, z, state::PROCESS, state::STATE_OF, i, state::ASLEEP);
-}
-
-// Is process `i` asleep on its own waitr?
-fn on_waitr(s: &[u8], z: Sizes, i: Index) -> bool
-    requires { OwnAsks z s.now i }
-    ensures { OnWaitr z s.now i result }
-{
-    let place = state::get8(s, z, state::PROCESS, state::STATE_OF, i);
-    if place != state::ASLEEP {
-        return false;
-    }
-    let call = state::get8(s, z, state::PROCESS, state::RESUME_KIND, i);
-    call == state::WAIT
+    lent::wait_on(&mut State { bytes: s, sizes: z }, i);
 }
 
 // Wakes process `i` where it is asleep on its own waitr: was it?
@@ -166,10 +112,5 @@ pub fn wake_waitr(s: &mut [u8], z: Sizes, i: Index) -> bool
     requires { OwnAsks z s.old i }
     ensures { WokeOwn z s.old s.new i result }
 {
-    if !on_waitr(s, z, i) {
-        return false;
-    }
-    state::set8(s, z, state::PROCESS, state::STATE_OF, i, state::READY);
-    awaken(s, z, i);
-    true
+    lent::wake_waitr(&mut State { bytes: s, sizes: z }, i)
 }

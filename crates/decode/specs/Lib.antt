@@ -1,8 +1,6 @@
 -- The definitions that the contracts cite.
-pub mod Fitting
-pub mod Fits
 pub mod Means
-pub mod Reads
+pub mod Fields
+pub mod Kinds
 pub mod Calls
-pub mod Others
 pub mod Decodes

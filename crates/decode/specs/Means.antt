@@ -1,11 +1,12 @@
 -- What each case that the code answers stands for.
-use Rattle.std.specs.Prelude.{◌≡◌, Bool, List, ℕ, ◌+◌, ◌<◌, length, take, drop}
-use Rattle.std.proofs.Math.Option.{Option, none, some}
+use Rattle.std.specs.Prelude.{◌≡◌, List, ℕ, ◌+◌, ◌<◌, length, take, drop, Option, Some, None}
+use Rattle.std.proofs.Math.Option as math
+use Rattle.std.proofs.Math.Option.{none, some}
 use Rattle.machine.specs.Step.{Step, Body, start, rfork, name, sched, yield, sleep, tsleep, wakeup, qlock, canqlock, qunlock, cond, clock, tadd, tdel, intr, due, exit, wait}
 use Rattle.decode.specs.declared.TsleepFields.{TsleepFields}
 use Rattle.decode.specs.declared.TaddFields.{TaddFields}
 use Rattle.decode.specs.declared.Call.{Call}
-use Rattle.decode.specs.declared.Call.TheVariants.{None, Start, Rfork, Name, Sched, Yield, Sleep, Tsleep, Wakeup, Qlock, Canqlock, Qunlock, Cond, Clock, Tadd, Tdel, Intr, Due, Exit, Wait}
+use Rattle.decode.specs.declared.Call.TheVariants.{Start, Rfork, Name, Sched, Yield, Sleep, Tsleep, Wakeup, Qlock, Canqlock, Qunlock, Cond, Clock, Tadd, Tdel, Intr, Due, Exit, Wait}
 use Rattle.decode.specs.declared.Decoded.{Decoded}
 
 -- The steps of many fields.
@@ -16,36 +17,31 @@ abbrev pub tadd_of : TaddFields → Body
 tadd_of f = tadd f.timer f.kind f.seconds f.nanoseconds f.rendez f.reading
 
 -- What a case asks, of the bytes s that it was read from.
-unfoldable pub body_of : Call → List ℕ → Option Body
-body_of None s = none
-body_of (Start m) s = some (start m)
-body_of (Rfork f m) s = some (rfork f m)
-body_of (Name n) s = some (name (take n (drop 6 s)))
-body_of Sched s = some sched
-body_of Yield s = some yield
-body_of (Sleep r c) s = some (sleep r c)
-body_of (Tsleep f) s = some (tsleep_of f)
-body_of (Wakeup r) s = some (wakeup r)
-body_of (Qlock q) s = some (qlock q)
-body_of (Canqlock q) s = some (canqlock q)
-body_of (Qunlock q) s = some (qunlock q)
-body_of (Cond c v) s = some (cond c v)
-body_of (Clock now) s = some (clock now)
-body_of (Tadd f) s = some (tadd_of f)
-body_of (Tdel t) s = some (tdel t)
-body_of (Intr now) s = some (intr now)
-body_of Due s = some due
-body_of (Exit n) s = some (exit (take n (drop 6 s)))
-body_of Wait s = some wait
+unfoldable pub body_of : Call → List ℕ → Body
+body_of (Start m) s = start m
+body_of (Rfork f m) s = rfork f m
+body_of (Name n) s = name (take n (drop 6 s))
+body_of Sched s = sched
+body_of Yield s = yield
+body_of (Sleep r c) s = sleep r c
+body_of (Tsleep f) s = tsleep_of f
+body_of (Wakeup r) s = wakeup r
+body_of (Qlock q) s = qlock q
+body_of (Canqlock q) s = canqlock q
+body_of (Qunlock q) s = qunlock q
+body_of (Cond c v) s = cond c v
+body_of (Clock now) s = clock now
+body_of (Tadd f) s = tadd_of f
+body_of (Tdel t) s = tdel t
+body_of (Intr now) s = intr now
+body_of Due s = due
+body_of (Exit n) s = exit (take n (drop 6 s))
+body_of Wait s = wait
 
--- The step that a body and a mark make.
-abbrev pub marked_as : Bool → Option Body → Option Step
-marked_as m none = none
-marked_as m (some b) = some (record { marked = m; body = b })
-
--- The step that the code's answer stands for.
-unfoldable pub step_of : Decoded → List ℕ → Option Step
-step_of d s = marked_as d.marked (body_of d.call s)
+-- The step that the code's answer stands for; none where the bytes are no step.
+unfoldable pub step_of : Option Decoded → List ℕ → math.Option Step
+step_of None s = none
+step_of (Some d) s = some (record { marked = d.marked; body = body_of d.call s })
 
 -- A number of 64 bits.
 abbrev pub Below : ℕ → Type 0
@@ -53,7 +49,6 @@ Below n = n < 18446744073709551616
 
 -- Numbers have 64 bits, and a byte string ends where the bytes end.
 unfoldable pub Ranged : Call → List ℕ → Type 0
-Ranged None s = Unit {0}
 Ranged (Start m) s = Below m
 Ranged (Rfork f m) s = Below f × Below m
 Ranged (Name n) s = 6 + n ≡ length s

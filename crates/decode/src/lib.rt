@@ -1,14 +1,15 @@
 // Step bytes to a step.
 #![tactic(auto)]
 
-ghost use Rattle.std.specs.Prelude.{◌≡◌};
-ghost use Rattle.machine.specs.Step.{kinds};
-ghost use Rattle.decode.specs.Fitting.{fields_for, Fits, Fitted};
-ghost use Rattle.decode.specs.Reads.{Behind, Number, TsleepRead, TaddRead, LowAsks, MiddleAsks, HighAsks, Read};
+ghost use Rattle.std.specs.Prelude.{◌≤◌, ◌+◌, ◌*◌, ◌≢◌, length, MatchOption};
+ghost use Rattle.decode.specs.Fields.{Behind, Number, Fields, IsString, NoString};
+ghost use Rattle.decode.specs.Calls.{Read};
 ghost use Rattle.decode.specs.Decodes.{Decodes};
 
+use memory::Number;
+
 // What a `tsleep` asks.
-#[derive(Clone, Copy)]
+#[derive(Clone, Copy, Debug, PartialEq, Eq)]
 pub struct TsleepFields {
     pub rendez: u64,
     pub condition: u64,
@@ -18,7 +19,7 @@ pub struct TsleepFields {
 }
 
 // What a `tadd` asks.
-#[derive(Clone, Copy)]
+#[derive(Clone, Copy, Debug, PartialEq, Eq)]
 pub struct TaddFields {
     pub timer: u64,
     pub kind: u64,
@@ -28,10 +29,9 @@ pub struct TaddFields {
     pub reading: u64,
 }
 
-// What a step asks; `None` where the bytes are no step. A byte string is the bytes from 6 on, as many as `length` says.
-#[derive(Clone, Copy)]
+// What a step asks. A byte string is the bytes from 6 on, as many as `length` says.
+#[derive(Clone, Copy, Debug, PartialEq, Eq)]
 pub enum Call {
-    None,
     Start { how: u64 },
     Rfork { flags: u64, how: u64 },
     Name { length: usize },
@@ -54,49 +54,10 @@ pub enum Call {
 }
 
 // A step, and whether it is marked as taken in interrupt context.
-#[derive(Clone, Copy)]
+#[derive(Clone, Copy, Debug, PartialEq, Eq)]
 pub struct Decoded {
     pub marked: bool,
     pub call: Call,
-}
-
-// How many numbers each kind has as its fields: `STRING` for a byte string, `NO_KIND` where there is no such kind.
-const STRING: u8 = 200;
-
-const NO_KIND: u8 = 255;
-
-const FIELDS: [u8; 20] = [
-    255, 1, 2, 200, 0, 0, 2, 5, 1, 1, 1, 1, 2, 1, 6, 1, 1, 0, 200, 0,
-];
-
-// The fields of a kind, as the table has them.
-fn fields_of(kind: u8) -> u8
-    ensures { result ≡ fields_for kinds kind }
-{
-    if kind < 20 {
-        FIELDS[kind as usize]
-    } else {
-        NO_KIND
-    }
-}
-
-// Are the bytes exactly as long as the fields of the kind ask?
-fn fits(b: &[u8], kind: u8) -> bool
-    ensures { Fits b.now kind result }
-{
-    let fields = fields_of(kind);
-    let length = b.len();
-    if fields == NO_KIND {
-        return false;
-    }
-    if fields != STRING {
-        return length == 2 + 8 * (fields as usize);
-    }
-    if length < 6 {
-        return false;
-    }
-    let string = memory::load32(b, 2);
-    length == 6 + string as usize
 }
 
 // Field `j` as a number.
@@ -104,150 +65,157 @@ fn number(b: &[u8], j: usize) -> u64
     requires { Behind b.now j }
     ensures { Number b.now j result }
 {
-    memory::load64(b, 2 + 8 * j)
+    u64::load(b, 2 + 8 * j)
 }
 
-// The fields of a `tsleep`.
-fn tsleep(b: &[u8]) -> TsleepFields
-    requires { Behind b.now 4 }
-    ensures { TsleepRead b.now result }
+// The fields of a kind that takes `N` numbers, where these are all the bytes.
+#[tactic(auto, using(crate::specs::Fields::filling, crate::specs::Fields::filled_behind, crate::specs::Fields::filled_more, crate::specs::Fields::filled))]
+fn numbers<const N: usize>(b: &[u8]) -> Option<[u64; N]>
+    requires { N ≤ 6 }
+    ensures { MatchOption result (length b.now ≢ 2 + 8 * N) (Fields N b.now) }
 {
-    TsleepFields {
-        rendez: number(b, 0),
-        condition: number(b, 1),
-        seconds: number(b, 2),
-        nanoseconds: number(b, 3),
-        reading: number(b, 4),
+    if b.len() != 2 + 8 * N {
+        return None;
     }
+    let mut fields = [0; N];
+    for j in 0..N {
+        fields[j] = number(b, j);
+    }
+    Some(fields)
 }
 
-// The fields of a `tadd`.
-fn tadd(b: &[u8]) -> TaddFields
-    requires { Behind b.now 5 }
-    ensures { TaddRead b.now result }
+// How long the byte string of a kind is that takes one, where it is all the bytes.
+fn string(b: &[u8]) -> Option<usize>
+    ensures { MatchOption result (NoString b.now) (IsString b.now) }
 {
-    TaddFields {
-        timer: number(b, 0),
-        kind: number(b, 1),
-        seconds: number(b, 2),
-        nanoseconds: number(b, 3),
-        rendez: number(b, 4),
-        reading: number(b, 5),
+    if b.len() < 6 {
+        return None;
     }
+    let length = u32::load(b, 2) as usize;
+    if b.len() != 6 + length {
+        return None;
+    }
+    Some(length)
 }
 
-// Kinds 1 to 7.
-fn low(b: &[u8], kind: u8) -> Call
-    requires { LowAsks b.now kind }
-    ensures { Read b.now kind result }
+// What the bytes ask, by the kind that the first of them names.
+#[tactic(auto, using(crate::specs::Calls::reading))]
+fn read(b: &[u8]) -> Option<Call>
+    requires { 2 ≤ length b.now }
+    ensures { Read b.now result }
 {
-    match kind {
-        1 => Call::Start { how: number(b, 0) },
-        2 => Call::Rfork {
-            flags: number(b, 0),
-            how: number(b, 1),
-        },
-        3 => Call::Name {
-            length: b.len() - 6,
-        },
-        4 => Call::Sched,
-        5 => Call::Yield,
-        6 => Call::Sleep {
-            rendez: number(b, 0),
-            condition: number(b, 1),
-        },
-        7 => Call::Tsleep { asked: tsleep(b) },
-        _ => Call::None,
+    match b[0] {
+        1 => {
+            let [how] = numbers::<1>(b)?;
+            Some(Call::Start { how })
+        }
+        2 => {
+            let [flags, how] = numbers::<2>(b)?;
+            Some(Call::Rfork { flags, how })
+        }
+        3 => {
+            let length = string(b)?;
+            Some(Call::Name { length })
+        }
+        4 => {
+            let [] = numbers::<0>(b)?;
+            Some(Call::Sched)
+        }
+        5 => {
+            let [] = numbers::<0>(b)?;
+            Some(Call::Yield)
+        }
+        6 => {
+            let [rendez, condition] = numbers::<2>(b)?;
+            Some(Call::Sleep { rendez, condition })
+        }
+        7 => {
+            let [rendez, condition, seconds, nanoseconds, reading] = numbers::<5>(b)?;
+            Some(Call::Tsleep {
+                asked: TsleepFields {
+                    rendez,
+                    condition,
+                    seconds,
+                    nanoseconds,
+                    reading,
+                },
+            })
+        }
+        8 => {
+            let [rendez] = numbers::<1>(b)?;
+            Some(Call::Wakeup { rendez })
+        }
+        9 => {
+            let [lock] = numbers::<1>(b)?;
+            Some(Call::Qlock { lock })
+        }
+        10 => {
+            let [lock] = numbers::<1>(b)?;
+            Some(Call::Canqlock { lock })
+        }
+        11 => {
+            let [lock] = numbers::<1>(b)?;
+            Some(Call::Qunlock { lock })
+        }
+        12 => {
+            let [condition, value] = numbers::<2>(b)?;
+            Some(Call::Cond { condition, value })
+        }
+        13 => {
+            let [reading] = numbers::<1>(b)?;
+            Some(Call::Clock { reading })
+        }
+        14 => {
+            let [timer, kind, seconds, nanoseconds, rendez, reading] = numbers::<6>(b)?;
+            Some(Call::Tadd {
+                asked: TaddFields {
+                    timer,
+                    kind,
+                    seconds,
+                    nanoseconds,
+                    rendez,
+                    reading,
+                },
+            })
+        }
+        15 => {
+            let [timer] = numbers::<1>(b)?;
+            Some(Call::Tdel { timer })
+        }
+        16 => {
+            let [reading] = numbers::<1>(b)?;
+            Some(Call::Intr { reading })
+        }
+        17 => {
+            let [] = numbers::<0>(b)?;
+            Some(Call::Due)
+        }
+        18 => {
+            let length = string(b)?;
+            Some(Call::Exit { length })
+        }
+        19 => {
+            let [] = numbers::<0>(b)?;
+            Some(Call::Wait)
+        }
+        _ => None,
     }
-}
-
-// Kinds 8 to 13.
-fn middle(b: &[u8], kind: u8) -> Call
-    requires { MiddleAsks b.now kind }
-    ensures { Read b.now kind result }
-{
-    match kind {
-        8 => Call::Wakeup {
-            rendez: number(b, 0),
-        },
-        9 => Call::Qlock { lock: number(b, 0) },
-        10 => Call::Canqlock { lock: number(b, 0) },
-        11 => Call::Qunlock { lock: number(b, 0) },
-        12 => Call::Cond {
-            condition: number(b, 0),
-            value: number(b, 1),
-        },
-        13 => Call::Clock {
-            reading: number(b, 0),
-        },
-        _ => Call::None,
-    }
-}
-
-// Kinds 14 to 19.
-fn high(b: &[u8], kind: u8) -> Call
-    requires { HighAsks b.now kind }
-    ensures { Read b.now kind result }
-{
-    match kind {
-        14 => Call::Tadd { asked: tadd(b) },
-        15 => Call::Tdel {
-            timer: number(b, 0),
-        },
-        16 => Call::Intr {
-            reading: number(b, 0),
-        },
-        17 => Call::Due,
-        18 => Call::Exit {
-            length: b.len() - 6,
-        },
-        19 => Call::Wait,
-        _ => Call::None,
-    }
-}
-
-// What the bytes of a kind ask, where they fit it.
-fn read(b: &[u8], kind: u8) -> Call
-    requires { Fitted b.now kind }
-    ensures { Read b.now kind result }
-{
-    if kind < 8 {
-        return low(b, kind);
-    }
-    if kind < 14 {
-        return middle(b, kind);
-    }
-    high(b, kind)
 }
 
 // The step that bytes are, if they are one.
-pub fn decode(b: &[u8]) -> Decoded
+pub fn decode(b: &[u8]) -> Option<Decoded>
     ensures { Decodes b.now result }
 {
     if b.len() < 2 {
-        return Decoded {
-            marked: false,
-            call: Call::None,
-        };
+        return None;
     }
-    let kind = b[0];
     let mark = b[1];
     if mark > 1 {
-        return Decoded {
-            marked: false,
-            call: Call::None,
-        };
+        return None;
     }
-    let fit = fits(b, kind);
-    if fit {
-        let call = read(b, kind);
-        return Decoded {
-            marked: mark == 1,
-            call,
-        };
-    }
-    Decoded {
-        marked: false,
-        call: Call::None,
-    }
+    let call = read(b)?;
+    Some(Decoded {
+        marked: mark == 1,
+        call,
+    })
 }

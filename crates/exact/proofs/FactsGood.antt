@@ -1,4 +1,4 @@
--- From the facts: the machine that a memory holds keeps 01's rules.
+-- From the facts: the machine that a memory holds keeps the rules of docs/MACHINE.md, "Well-formed states".
 use Rattle.std.specs.Prelude.{◌≡◌, refl, Bool, true, false, ◌&&◌, ◌⊎◌, ℕ, zero, suc, ◌+◌, ◌-◌, ◌*◌, ◌^◌, ◌≤◌, ◌<◌, eqb, ltb, replicate, List, [], ◌∷◌, map}
 use Rattle.std.proofs.Math.Path.{sym, ap, subst}
 use Rattle.std.proofs.Common.{◌∙◌, inl, inr, ⊎_elim, arith, eqb-true, eq-eqb, ltb-true, ltb-false}

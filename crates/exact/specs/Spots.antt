@@ -1,4 +1,4 @@
--- In which of the five places each record is: as its state and call say. From this follow the places of demand 3, and who is asleep.
+-- In which of the five places each record is: as its state and call say. From this follow the places of `Good`, and who is asleep.
 use Rattle.std.specs.Prelude.{◌≡◌, Bool, true, false, eqb, List, ◌++◌, ℕ, ◌+◌, ◌≤◌, ◌<◌}
 use Rattle.std.proofs.Math.Path.{refl, ap}
 use Rattle.std.proofs.Common.{sym, ◌∙◌, arith, eqb-true}

@@ -1,4 +1,4 @@
--- Every step that is not refused is a change of `View.antt`: the steps that make, wake, run or change nothing that demand 3 looks at.
+-- Every step that is not refused is a change of `View.antt`: the steps that make, wake, run or change nothing that `Demand3` looks at.
 use Rattle.std.specs.Prelude.{◌≡◌, refl, Bool, true, false, not, List, [], ◌∷◌, ℕ, suc, ◌<◌, eqb, length, replicate}
 use Rattle.std.proofs.Common.{sym, ap, ◌∙◌, subst, arith, ne_eqb, length-set}
 use Rattle.std.proofs.Math.Option.{Option, none, some, get_or}
@@ -26,7 +26,7 @@ Changes m s o = Change (view m) (says_of (some s) o.reply) o.readied o.dispatche
 pub into : {v w x : View} {says : Says} {rs ds : List ℕ} {f : ℕ} → x ≡ w → Change v says rs ds f w → Change v says rs ds f x
 into {v} {w} {x} {says} {rs} {ds} {f} e c = subst (λ (u : View). Change v says rs ds f u) (sym e) c
 
--- nothing that demand 3 looks at has changed
+-- nothing that `Demand3` looks at has changed
 pub unseen : {v w : View} → w ≡ v → Change v silent [] [] 0 w
 unseen e = into e (wakes nobody)
 
@@ -74,7 +74,7 @@ free-kept i p m e =
     ∙ ap (highest_below (length m.processes))
     (λ t k. not (not (eqb (get_or-set_kept (λ (x : Process). x.pid) m.processes i p free k e t) 0)))
 
--- `start`, and `rfork` with RFPROC: n is a machine that demand 3 cannot tell from m
+-- `start`, and `rfork` with RFPROC: n is a machine that `Demand3` cannot tell from m
 made_changes : (m n : Machine) → Sound m → (says : Says) (text : List ℕ) (parent : ℕ)
     → view n ≡ view m
     → n.next_pid ≡ m.next_pid

@@ -1,4 +1,4 @@
--- What demand 3 rests on holds of every machine that steps make from a fresh one.
+-- What `Demand3` rests on holds of every machine that steps make from a fresh one.
 use Rattle.std.specs.Prelude.{◌≡◌, refl, List, ℕ, suc, ◌+◌, ◌≤◌, ◌<◌}
 use Rattle.std.proofs.Common.{sym, ap, ◌∙◌, subst, arith}
 use Rattle.machine.specs.Machine.{Machine, Sizes, Resume, nothing, in_sleep, in_tsleep, in_qlock, in_wait, process, pid_of}

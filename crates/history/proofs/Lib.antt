@@ -1,4 +1,4 @@
--- Demand 3 over a list of steps, proved, in the order in which to read it: every step is a change of what demand 3 looks at; what every
+-- `Demand3` over a list of steps, proved, in the order in which to read it: every step is a change of what `Demand3` looks at; what every
 -- change keeps; the run queue; the places; the ticks; the theorem (Proved).
 pub mod Lists
 pub mod View

@@ -1,4 +1,4 @@
--- Demand 3 holds of every list of steps from every fresh machine.
+-- `Demand3` holds of every list of steps from every fresh machine.
 use Rattle.std.specs.Prelude.{◌≡◌, List}
 use Rattle.std.proofs.Common.{◌∙◌}
 use Rattle.std.proofs.Math.Nat.{zero-add}

@@ -85,7 +85,7 @@ waitr-view i m there e =
     (λ k. get_or-set_kept (λ (x : Process). x.quantum_end) m.processes i p free k refl)
     refl refl refl refl refl
 
--- the newest exit taken changes nothing that demand 3 looks at
+-- the newest exit taken changes nothing that `Demand3` looks at
 take-field : {A : Type 0} (f : Process → A) → ((l : List Exit) (p : Process) → f (with_exits l p) ≡ f p) → (p : Process) → f (take_exit p) ≡ f p
 unfolding take_exit
 take-field f same p = go p.exits

@@ -1,4 +1,4 @@
--- What of `Good` demand 3 rests on. (`Kept.antt` proves it of every machine that steps make from a fresh one.)
+-- What of `Good` the proof of `Demand3` rests on. (`Kept.antt` proves it of every machine that steps make from a fresh one.)
 use Rattle.std.specs.Prelude.{◌≡◌, ℕ, ◌+◌, ◌≤◌, ◌<◌, length}
 use Rattle.machine.specs.Machine.{Machine, Resume, nothing, in_sleep, in_tsleep, in_qlock, in_wait, process, pid_of}
 use Rattle.machine.specs.Good.{InOnePlace}

@@ -1,4 +1,4 @@
--- What demand 3 looks at in a machine, and the ways in which a step can change it. Each way is one move of one process from place to
+-- What `Demand3` looks at in a machine, and the ways in which a step can change it. Each way is one move of one process from place to
 -- place, or a waking of several; `Changes.antt` shows that every step is one of them.
 use Rattle.std.specs.Prelude.{◌≡◌, Bool, true, false, List, [], ◌∷◌, ◌++◌, ℕ, suc, ◌+◌, ◌<◌, length}
 use Rattle.std.proofs.Math.Option.{Option, none, some}

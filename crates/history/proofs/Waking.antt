@@ -119,7 +119,7 @@ wake_waitr-wakes j m = go (process m j).on_waitr refl
     go true e = rw (waitr-view j m e) (from_waitr j e)
     go false e = nobody
 
--- the parent's record is changed where demand 3 does not look, and then its waitr is woken
+-- the parent's record is changed where `Demand3` does not look, and then its waitr is woken
 told : (j : ℕ) (p : Process) (m : Machine)
     → p.on_waitr ≡ (process m j).on_waitr
     → p.pid ≡ (process m j).pid

@@ -1,5 +1,6 @@
--- Demand 3 over a list of steps, as one claim: 01, 'Demand 3 over a list'. proofs/Proved.antt proves it of every list from
--- every fresh machine, whatever its sizes; proofs/Tight.antt gives a stay that meets the tick bound.
+-- Who is where, and how long anyone waits in the run queue, over a list of steps, as one claim: docs/MACHINE.md, "Places" and
+-- "Waiting". proofs/Proved.antt proves it of every list from every fresh machine, whatever its sizes; proofs/Tight.antt gives a stay
+-- that meets the tick bound.
 use Rattle.std.specs.Prelude.{if◌then◌else◌, ◌≡◌, Bool, true, false, List, [], ◌∷◌, ◌++◌, map, ◌⊎◌, ℕ, ◌+◌, ◌*◌, ◌≤◌, ◌<◌, length}
 use Rattle.std.proofs.Math.Option.{Option, none, some}
 use Rattle.machine.specs.Basics.{count}

@@ -1,4 +1,4 @@
--- What the history of a list of steps tells, read without any machine: 01, 'Demand 3 over a list'. Places are read from the steps,
+-- What the history of a list of steps tells, read without any machine: docs/MACHINE.md, "Places". Places are read from the steps,
 -- their answers, whom each step readies or dispatches, and timer 0's firings.
 use Rattle.std.specs.Prelude.{if◌then◌else◌, List, [], ◌∷◌, ◌++◌, ℕ, ◌+◌, eqb, length, drop}
 use Rattle.std.proofs.Math.Option.{Option, none, some}

@@ -1,3 +1,3 @@
--- Demand 3 over a list of steps, in the order in which to read it: the definitions and the statement. proofs/ has the theorem.
+-- Places and waiting over a list of steps, in the order in which to read it: the definitions and the statement. proofs/ has the theorem.
 pub mod History
 pub mod Demand3

@@ -1,2 +1,2 @@
-// What a list of steps does: demand 3 (specifications only).
+// What a list of steps does: docs/MACHINE.md, "Places" and "Waiting" (specifications only).
 #![tactic(auto)]

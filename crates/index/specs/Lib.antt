@@ -1,5 +1,4 @@
 -- How the words that say what is in use are tested.
-pub mod Gather
-pub mod Compare
+pub mod Bits
 pub mod Words
-pub mod Full
+pub mod All

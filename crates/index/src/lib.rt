@@ -1,33 +1,24 @@
 // Whether the words that say which records and cells are in use are right.
 #![tactic(auto)]
 
-ghost use Rattle.std.specs.Prelude.{◌≡◌, true, ◌+◌, ◌*◌, ◌<◌, ◌≤◌};
+ghost use Rattle.std.specs.Prelude.{◌≡◌, ◌+◌, ◌<◌, ◌≤◌, Bool, ℕ, IsTrue, ◌↔◌};
 ghost use Rattle.layout.specs.Table.{slot};
-ghost use Rattle.state.specs.Fields.{pid, owner};
 ghost use Rattle.state.specs.Places.{cell_in, ReachIn};
-ghost use Rattle.state.specs.WellFormed.{is_full};
-ghost use Rattle.rules.specs.Code.{mem_in, Long, Whole, Decides};
-ghost use Rattle.index.specs.Gather.{bit_of, used_bit, WordsFor, Span};
-ghost use Rattle.index.specs.Words.{record_word, cell_word, full_word, WordsAsk, Zeros, RecordWords, CellWords, FullWords, IndexIn};
-ghost use Rattle.index.specs.Full.{FullAsk};
+ghost use Rattle.state.specs.Regions.{slot_of};
+ghost use Rattle.state.specs.WellFormed.{bits, in_use};
+ghost use Rattle.index.specs.Bits.{used_bit, WordsFor, Span};
+ghost use Rattle.index.specs.Words.{Asks, WordsAsk, UsedWord, UsedWords, FullWords, full_word, FullAsk, FullAsks, FullIn, IndexIn};
 
-use state::{Index, Sizes};
-
-// A number with one bit more behind it.
-fn with_bit(word: u64, bit: bool) -> u64
-    requires { word < 9223372036854775808 }
-    ensures { result ≡ 2 * word + bit_of bit }
-{
-    if bit {
-        return 2 * word + 1;
-    }
-    2 * word
-}
+use memory::Number;
+use rules::Checked;
+use state::field::{self, Field};
+use state::{Index, View};
 
 // How many words have a bit for each of `n` records, or cells.
 fn words_for(n: Index) -> Index
     requires { 1 ≤ n }
-    ensures { WordsFor n result }
+    ensures words { WordsFor n result }
+    ensures small { result ≤ 1024 }
 {
     (n - 1) / 64 + 1
 }
@@ -45,174 +36,111 @@ fn span(end: Index, base: Index, n: Index) -> Index
     n
 }
 
-// Is the record `k` from the last in use?
-fn record_bit(s: &[u8], z: Sizes, k: Index) -> bool
-    requires { Long z s.now × (k < z.processes) }
-    ensures { result ≡ used_bit z.processes (mem_in z s.now pid) k }
+// The word whose bit `k`, for each `k` below `n`, is set where `bit(k)` is true. The highest comes first: a shift by `k` took longer.
+fn word_of<F: Fn(Index) -> bool>(n: Index, bit: F) -> u64
+    requires small { n ≤ 64 }
+    requires tested { (k : ℕ) → k < n → F.pre bit k }
+    ensures { (f : ℕ → Bool) → ((k : ℕ) (t : Bool) → k < n → F.post bit k t → t ≡ f k) → result ≡ bits f n }
 {
-    let p = z.processes;
-    let v = state::get64(s, z, state::PROCESS, state::PID, p - 1 - k);
-    v != 0
-}
-
-// Is the cell `k` from the last in use?
-fn cell_bit(s: &[u8], z: Sizes, k: Index) -> bool
-    requires { Long z s.now × (k < z.cells) }
-    ensures { result ≡ used_bit z.cells (mem_in z s.now owner) k }
-{
-    let p = z.cells;
-    let v = state::get16(s, z, state::CELL, state::OWNER, p - 1 - k);
-    v != 0
-}
-
-// Is word `i` of a region full?
-fn full_bit(s: &[u8], z: Sizes, region: u8, i: Index) -> bool
-    requires { ReachIn z s.now (slot region 0 8) i }
-    ensures { result ≡ is_full (cell_in z s.now (slot region 0 8) i) }
-{
-    let v = state::get64(s, z, region, 0, i);
-    v == 18_446_744_073_709_551_615
-}
-
-// The word `w` of the records in use.
-fn record_word(s: &[u8], z: Sizes, w: Index) -> u64
-    requires { Long z s.now × (w < 64) }
-    ensures { result ≡ record_word z s.now w }
-{
-    let mut word: u64 = 0;
-    let mut b = span(z.processes, 64 * w, 64);
-    while 0 < b {
-        b -= 1;
-        let bit = record_bit(s, z, 64 * w + b);
-        word = with_bit(word, bit);
+    let mut word = 0;
+    for j in 0..n {
+        word *= 2;
+        if bit(n - 1 - j) {
+            word += 1;
+        }
     }
     word
 }
 
-// The word `w` of the cells in use.
-fn cell_word(s: &[u8], z: Sizes, w: Index) -> u64
-    requires { Long z s.now × (w < 1016) }
-    ensures { result ≡ cell_word z s.now w }
+// Is the record, or cell, `k` from the last in use? It is where its field is not 0.
+fn is_used<T: Number + Drop>(v: &View, of: Field<T>, n: Index, k: Index) -> bool
+    requires reach { Asks v.now.sizes v.now.bytes.now (slot_of of T.width) n }
+    requires below { k < n }
+    ensures { result ≡ used_bit n (cell_in v.now.sizes v.now.bytes.now (slot_of of T.width)) k }
 {
-    let mut word: u64 = 0;
-    let mut b = span(z.cells, 64 * w, 64);
-    while 0 < b {
-        b -= 1;
-        let bit = cell_bit(s, z, 64 * w + b);
-        word = with_bit(word, bit);
-    }
-    word
+    v.get(of, n - 1 - k).value() != 0
+}
+
+// The word `w` of the records, or cells, in use.
+fn used_word<T: Number + Drop>(v: &View, of: Field<T>, n: Index, w: Index) -> u64
+    requires reach { Asks v.now.sizes v.now.bytes.now (slot_of of T.width) n }
+    requires small { w < 1024 }
+    ensures { result ≡ in_use n (cell_in v.now.sizes v.now.bytes.now (slot_of of T.width)) w 64 }
+{
+    let v = *v;
+    word_of(span(n, 64 * w, 64), |b| is_used(&v, of, n, 64 * w + b))
 }
 
 // The word of which of the `count` words from `base` on are full, in a region of whose words only the first `n` may be.
-fn full_word(s: &[u8], z: Sizes, region: u8, n: Index, base: Index, count: Index) -> u64
-    requires { FullAsk z s.now region n × (count ≤ 64) }
-    ensures { result ≡ full_word z s.now region base count }
+fn full_word(v: &View, words: Field<u64>, n: Index, base: Index, count: Index) -> u64
+    requires reach { FullAsk v.now.sizes v.now.bytes.now (slot_of words 8) n }
+    requires small { count ≤ 64 }
+    ensures { result ≡ full_word v.now.sizes v.now.bytes.now (slot_of words 8) base count }
 {
-    let mut word: u64 = 0;
-    let mut b = span(n, base, count);
-    while 0 < b {
-        b -= 1;
-        let bit = full_bit(s, z, region, base + b);
-        word = with_bit(word, bit);
-    }
-    word
+    let v = *v;
+    word_of(span(n, base, count), |b| v.get(words, base + b) == u64::MAX)
 }
 
-// Are the words of a region from `from` on, up to its end at `n`, 0?
-fn zeros_from(s: &[u8], z: Sizes, region: u8, from: Index, n: Index) -> bool
-    requires { WordsAsk z s.now region n }
-    ensures { Zeros z s.now region from n result }
+// Is word `w` of the words right that say which of `n` records, or cells, are in use?
+fn used_word_ok<T: Number + Drop>(
+    v: &View,
+    words: Field<u64>,
+    of: Field<T>,
+    n: Index,
+    w: Index,
+) -> bool
+    requires word { ReachIn v.now.sizes v.now.bytes.now (slot_of words 8) w }
+    requires reach { Asks v.now.sizes v.now.bytes.now (slot_of of T.width) n }
+    requires small { w < 1024 }
+    ensures { IsTrue result ↔ UsedWord v.now.sizes v.now.bytes.now (slot_of words 8) (slot_of of T.width) n w }
 {
-    let mut w = from;
-    while w < n {
-        let v = state::get64(s, z, region, 0, w);
-        if v != 0 {
-            return false;
-        }
-        w += 1;
-    }
-    true
+    v.get(words, w) == used_word(v, of, n, w)
 }
 
-// Are the words of the records in use right? Those past the last record are 0.
-fn record_words_ok(s: &[u8], z: Sizes) -> bool
-    requires { Long z s.now }
-    ensures { RecordWords z s.now result }
+// Are the `all` words right that say which of `n` records, or cells, are in use? Those past the last are 0.
+fn used_ok<T: Number + Drop>(
+    v: &View,
+    words: Field<u64>,
+    all: Index,
+    of: Field<T>,
+    n: Index,
+) -> bool
+    requires words { WordsAsk v.now.sizes v.now.bytes.now (slot_of words 8) all n }
+    requires reach { Asks v.now.sizes v.now.bytes.now (slot_of of T.width) n }
+    ensures { IsTrue result ↔ UsedWords v.now.sizes v.now.bytes.now (slot_of words 8) all (slot_of of T.width) n }
 {
-    let n = words_for(z.processes);
-    let mut w: Index = 0;
-    while w < n {
-        let v = state::get64(s, z, state::RECORD_WORD, 0, w);
-        let x = record_word(s, z, w);
-        if v != x {
-            return false;
-        }
-        w += 1;
-    }
-    zeros_from(s, z, state::RECORD_WORD, n, 64)
+    let v = *v;
+    let end = words_for(n);
+    (0..end).all(|w| used_word_ok(&v, words, of, n, w)) && (end..all).all(|w| v.get(words, w) == 0)
 }
 
-// Are the words of the cells in use right? Those past the last cell are 0.
-fn cell_words_ok(s: &[u8], z: Sizes) -> bool
-    requires { Long z s.now }
-    ensures { CellWords z s.now result }
+// Are the words right that say which words of the cells in use are full, of which only the first `n` may be?
+fn full_words_ok(v: &View, n: Index) -> bool
+    requires { FullAsk v.now.sizes v.now.bytes.now (slot 10 0 8) n }
+    ensures { IsTrue result ↔ FullWords v.now.sizes v.now.bytes.now }
 {
-    let n = words_for(z.cells);
-    let mut w: Index = 0;
-    while w < n {
-        let v = state::get64(s, z, state::CELL_WORD, 0, w);
-        let x = cell_word(s, z, w);
-        if v != x {
-            return false;
-        }
-        w += 1;
-    }
-    zeros_from(s, z, state::CELL_WORD, n, 1016)
+    let v = *v;
+    (0..16).all(|w| v.get(field::FULL_CELL_WORDS, w)
+        == full_word(&v, field::USED_CELLS, n, 64 * w, 64))
 }
 
-// Are the words right that say which words of the cells are full, where these are right?
-fn full_words_ok(s: &[u8], z: Sizes) -> bool
-    requires { Long z s.now × CellWords z s.now true }
-    ensures { FullWords z s.now result }
+// Are the words right that say which words are full, where those of the records and cells in use are right?
+fn full_ok(v: &View) -> bool
+    requires { FullAsks v.now.sizes v.now.bytes.now }
+    ensures { IsTrue result ↔ FullIn v.now.sizes v.now.bytes.now }
 {
-    let n = words_for(z.cells);
-    let mut w: Index = 0;
-    while w < 16 {
-        let v = state::get64(s, z, state::FULL_WORD, 0, w);
-        let x = full_word(s, z, state::CELL_WORD, n, 64 * w, 64);
-        if v != x {
-            return false;
-        }
-        w += 1;
-    }
-    true
+    let records = words_for(v.sizes.processes);
+    let cells = words_for(v.sizes.cells);
+    v.get(field::FULL_RECORDS, 0) == full_word(v, field::USED_RECORDS, records, 0, 64)
+        && (v.get(field::FULL_CELLS, 0) == full_word(v, field::FULL_CELL_WORDS, 16, 0, 16)
+            && full_words_ok(v, cells))
 }
 
 // Are all these words right?
-pub fn index_ok(s: &[u8], z: Sizes) -> bool
-    requires { Whole z s.now }
-    ensures { Decides result (IndexIn z s.now) }
+pub fn index_ok(v: &Checked) -> bool
+    ensures { IsTrue result ↔ IndexIn v.now.sizes v.now.bytes.now }
 {
-    if !record_words_ok(s, z) {
-        return false;
-    }
-    if !cell_words_ok(s, z) {
-        return false;
-    }
-    if !full_words_ok(s, z) {
-        return false;
-    }
-    let v = state::get64(s, z, state::HEADER, state::FULL_RECORDS, 0);
-    let n = words_for(z.processes);
-    let x = full_word(s, z, state::RECORD_WORD, n, 0, 64);
-    if v != x {
-        return false;
-    }
-    let y = state::get64(s, z, state::HEADER, state::FULL_CELLS, 0);
-    let u = full_word(s, z, state::FULL_WORD, 16, 0, 16);
-    if y != u {
-        return false;
-    }
-    true
+    let v = v.view();
+    used_ok(&v, field::USED_RECORDS, 64, field::PID, v.sizes.processes)
+        && (used_ok(&v, field::USED_CELLS, 1016, field::OWNER, v.sizes.cells) && full_ok(&v))
 }

@@ -1,28 +1,15 @@
 -- The children counted in an array: each record that names a living parent adds one to that parent's number.
-use Rattle.std.specs.Prelude.{if◌then◌else◌, ◌≡◌, refl, Bool, true, false, List, ℕ, zero, suc, ◌+◌, ◌-◌, ◌≤◌, ◌<◌, eqb, length, get_or, set}
+use Rattle.std.specs.Prelude.{if◌then◌else◌, ◌≡◌, refl, Bool, true, false, List, ℕ, zero, suc, ◌+◌, ◌≤◌, ◌<◌, eqb, length, get_or, set}
 use Rattle.std.proofs.Common.{sym, ap, subst, ◌∙◌, arith, eq-eqb, ne_eqb, eqb-true, length-set, get_or-set_same, get_or-set_other}
 use Rattle.std.proofs.lemmas.Bool.{eqb-false}
 use Rattle.layout.specs.Memory.{Memory}
 use Rattle.rules.specs.Facts.{count_below}
-use Rattle.kin.specs.Link.{kin_link, Linked}
+use Rattle.kin.specs.Link.{kin_link}
 
 -- The numbers after one more for the number that a link names.
 abbrev pub bumped : List ℕ → ℕ → List ℕ
 bumped cs zero = cs
 bumped cs (suc j) = set cs j (get_or cs j 0 + 1)
-
-pub record Bumped (cs : List ℕ) (l : ℕ) (cs' : List ℕ) : Type 0 where
-  pub same : cs' ≡ bumped cs l
-
-pub bump-none : {cs : List ℕ} {l : ℕ} → l ≡ 0 → Bumped cs l cs
-bump-none {cs} {l} e = record { same = rw e }
-
-pub bump-some : {cs cs' : List ℕ} {l : ℕ} → (l ≡ 0 → ⊥) → cs' ≡ set cs (l - 1) (get_or cs (l - 1) 0 + 1) → Bumped cs l cs'
-bump-some {cs} {cs'} {l} ne d = record { same = go l ne d }
-  where
-    go : (x : ℕ) → (x ≡ 0 → ⊥) → cs' ≡ set cs (x - 1) (get_or cs (x - 1) 0 + 1) → cs' ≡ bumped cs x
-    go zero n g = absurd (n refl)
-    go (suc j) n g = let q : suc j - 1 ≡ j = omega arith in g ∙ ap (λ (a : ℕ). set cs a (get_or cs a 0 + 1)) q
 
 abbrev pub names : Memory → ℕ → ℕ → Bool
 names m j i = eqb (kin_link m i) (suc j)
@@ -46,14 +33,9 @@ count_small (suc n) f = go (f n) (count_small n f)
     go true h = omega arith
     go false h = omega arith
 
--- What one more asks.
-pub record BumpAsks (cs : List ℕ) (l : ℕ) : Type 0 where
-  pub link : l ≤ 4096
-  pub size : length cs ≡ 4096
-  pub small : (j : ℕ) → j < 4096 → get_or cs j 0 ≤ 4096
-
-pub count-asks : {m : Memory} {n i l : ℕ} {cs : List ℕ} → Counting m n i cs → l ≤ 4096 → BumpAsks cs l
-count-asks {m} {n} {i} {l} {cs} c h = record { link = h; size = c.size; small = λ j b. omega (arith, c.each j b, count_small i (names m j), c.index, c.small) }
+-- Each number is small.
+pub count-few : {m : Memory} {n i : ℕ} {cs : List ℕ} → Counting m n i cs → (j : ℕ) → j < 4096 → get_or cs j 0 ≤ 4096
+count-few {m} {n} {i} {cs} c j b = omega (arith, c.each j b, count_small i (names m j), c.index, c.small)
 
 one_more : (m : Memory) (i l : ℕ) (cs : List ℕ) → l ≡ kin_link m i → length cs ≡ 4096 → (j : ℕ) → j < 4096 → get_or (bumped cs l) j 0 ≡ get_or cs j 0 + (if names m j i then 1 else 0)
 one_more m i zero cs e s j b = rw (← e, ne_eqb 0 (suc j) (λ d. omega arith)) (omega arith)
@@ -69,16 +51,15 @@ one_more m i (suc x) cs e s j b = rw (← e) (go (eqb x j) refl)
         rw (ne_eqb (suc x) (suc j) (λ d. w (omega arith))) (get_or-set_other cs x j (get_or cs x 0 + 1) 0 (λ d. w (sym d)) ∙ omega arith)
 
 pub count-more
-    : {m : Memory} {n i k l : ℕ} {cs cs' : List ℕ} → Counting m n i cs → i < n → Linked m i l → Bumped cs l cs' → k ≡ i + 1 → Counting m n k cs'
+    : {m : Memory} {n i l : ℕ} {cs cs' : List ℕ} → Counting m n i cs → i < n → l ≡ kin_link m i → cs' ≡ bumped cs l → Counting m n (i + 1) cs'
 unfolding count_below
-count-more {m} {n} {i} {k} {l} {cs} {cs'} c h w b₀ q =
-    let e : cs' ≡ bumped cs l = b₀.same in
-    let r : k ≡ suc i = omega arith in
+count-more {m} {n} {i} {l} {cs} {cs'} c h w e =
+    let r : i + 1 ≡ suc i = omega arith in
     record {
       index = omega arith;
       small = c.small;
       size = rw e (len l);
-      each = λ j b. rw (r, e) (one_more m i l cs w.link c.size j b ∙ ap (λ (x : ℕ). x + (if names m j i then 1 else 0)) (c.each j b));
+      each = λ j b. rw (r, e) (one_more m i l cs w c.size j b ∙ ap (λ (x : ℕ). x + (if names m j i then 1 else 0)) (c.each j b));
     }
   where
     len : (x : ℕ) → length (bumped cs x) ≡ 4096

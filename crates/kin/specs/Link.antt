@@ -1,7 +1,7 @@
 -- The living parent that a record names: by its link and by its pid.
 use Rattle.std.specs.Prelude.{if◌then◌else◌, ◌≡◌, refl, Bool, true, false, ℕ, zero, suc, ◌-◌, ◌<◌, eqb}
 use Rattle.std.proofs.Math.Path.{sym}
-use Rattle.std.proofs.Common.{ap, ◌∙◌, arith, eq-eqb, ne_eqb, eqb-true}
+use Rattle.std.proofs.Common.{◌∙◌, arith, eq-eqb, ne_eqb, eqb-true}
 use Rattle.std.proofs.lemmas.Bool.{eqb-false}
 use Rattle.layout.specs.Memory.{Memory}
 use Rattle.state.specs.Fields as fields
@@ -17,47 +17,42 @@ kin_link m i =
     else (if eqb (m fields.parent_at i) 0 then 0 else (if eqb (m fields.pid (m fields.parent_at i - 1)) (m fields.parent i) then m fields.parent_at i else 0)))
 
 -- Each way out of the code.
-pub record Linked (m : Memory) (i r : ℕ) : Type 0 where
-  pub link : r ≡ kin_link m i
-
-pub link-free : {m : Memory} {i p : ℕ} → p ≡ m fields.pid i → p ≡ 0 → Linked m i 0
+pub link-free : (m : Memory) {i p : ℕ} → p ≡ m fields.pid i → p ≡ 0 → 0 ≡ kin_link m i
 unfolding kin_link
-link-free {m} {i} e a = record { link = rw (eq-eqb (m fields.pid i) 0 (sym e ∙ a)) }
+link-free m {i} e a = rw (eq-eqb (m fields.pid i) 0 (sym e ∙ a))
 
-pub link-none : {m : Memory} {i p q : ℕ} → p ≡ m fields.pid i → (p ≡ 0 → ⊥) → q ≡ m fields.parent i → q ≡ 0 → Linked m i 0
+pub link-none : (m : Memory) {i p q : ℕ} → p ≡ m fields.pid i → (p ≡ 0 → ⊥) → q ≡ m fields.parent i → q ≡ 0 → 0 ≡ kin_link m i
 unfolding kin_link
-link-none {m} {i} e a f b = record { link = rw (ne_eqb (m fields.pid i) 0 (λ x. a (e ∙ x)), eq-eqb (m fields.parent i) 0 (sym f ∙ b)) }
+link-none m {i} e a f b = rw (ne_eqb (m fields.pid i) 0 (λ x. a (e ∙ x)), eq-eqb (m fields.parent i) 0 (sym f ∙ b))
 
 pub link-zero
-    : {m : Memory} {i p q l : ℕ}
+    : (m : Memory) {i p q : ℕ}
     → p ≡ m fields.pid i
     → (p ≡ 0 → ⊥)
     → q ≡ m fields.parent i
     → (q ≡ 0 → ⊥)
-    → l ≡ m fields.parent_at i
-    → l ≡ 0
-    → Linked m i 0
+    → 0 ≡ m fields.parent_at i
+    → 0 ≡ kin_link m i
 unfolding kin_link
-link-zero {m} {i} e a f b g c =
-    record { link = rw (ne_eqb (m fields.pid i) 0 (λ x. a (e ∙ x)), ne_eqb (m fields.parent i) 0 (λ x. b (f ∙ x)), eq-eqb (m fields.parent_at i) 0 (sym g ∙ c)) }
+link-zero m {i} e a f b c =
+    rw (ne_eqb (m fields.pid i) 0 (λ x. a (e ∙ x)), ne_eqb (m fields.parent i) 0 (λ x. b (f ∙ x)), eq-eqb (m fields.parent_at i) 0 (sym c))
 
-there : (m : Memory) (i : ℕ) {l v : ℕ} → l ≡ m fields.parent_at i → v ≡ m fields.pid (l - 1) → v ≡ m fields.pid (m fields.parent_at i - 1)
-there m i g h = h ∙ ap (λ (x : ℕ). m fields.pid (x - 1)) g
+module _ (m : Memory) {i j p q v : ℕ} (e : p ≡ m fields.pid i) (a : p ≡ 0 → ⊥) (f : q ≡ m fields.parent i) (b : q ≡ 0 → ⊥) (g : suc j ≡ m fields.parent_at i) (h : v ≡ m fields.pid j) where
+  some : m fields.parent_at i ≡ 0 → ⊥
+  some x = omega (arith, g, x)
 
-module _ {m : Memory} {i p q l v : ℕ} (e : p ≡ m fields.pid i) (a : p ≡ 0 → ⊥) (f : q ≡ m fields.parent i) (b : q ≡ 0 → ⊥) (g : l ≡ m fields.parent_at i) (c : l ≡ 0 → ⊥) (h : v ≡ m fields.pid (l - 1)) where
-  pub link-some : v ≡ q → Linked m i l
+  there : v ≡ m fields.pid (m fields.parent_at i - 1)
+  there = let k : m fields.parent_at i - 1 ≡ j = omega (arith, g) in rw k h
+
+  pub link-some : v ≡ q → suc j ≡ kin_link m i
   unfolding kin_link
   link-some d =
-      record {
-        link = rw (ne_eqb (m fields.pid i) 0 (λ x. a (e ∙ x)), ne_eqb (m fields.parent i) 0 (λ x. b (f ∙ x)), ne_eqb (m fields.parent_at i) 0 (λ x. c (g ∙ x)), eq-eqb (m fields.pid (m fields.parent_at i - 1)) (m fields.parent i) (sym (there m i g h) ∙ d ∙ f)) g;
-      }
+      rw (ne_eqb (m fields.pid i) 0 (λ x. a (e ∙ x)), ne_eqb (m fields.parent i) 0 (λ x. b (f ∙ x)), ne_eqb (m fields.parent_at i) 0 some, eq-eqb (m fields.pid (m fields.parent_at i - 1)) (m fields.parent i) (sym there ∙ d ∙ f)) g
 
-  pub link-other : (v ≡ q → ⊥) → Linked m i 0
+  pub link-other : (v ≡ q → ⊥) → 0 ≡ kin_link m i
   unfolding kin_link
   link-other d =
-      record {
-        link = rw (ne_eqb (m fields.pid i) 0 (λ x. a (e ∙ x)), ne_eqb (m fields.parent i) 0 (λ x. b (f ∙ x)), ne_eqb (m fields.parent_at i) 0 (λ x. c (g ∙ x)), ne_eqb (m fields.pid (m fields.parent_at i - 1)) (m fields.parent i) (λ x. d (there m i g h ∙ x ∙ sym f)));
-      }
+      rw (ne_eqb (m fields.pid i) 0 (λ x. a (e ∙ x)), ne_eqb (m fields.parent i) 0 (λ x. b (f ∙ x)), ne_eqb (m fields.parent_at i) 0 some, ne_eqb (m fields.pid (m fields.parent_at i - 1)) (m fields.parent i) (λ x. d (there ∙ x ∙ sym f)))
 
 -- What the link says.
 pub record Child (m : Memory) (i j : ℕ) : Type 0 where

@@ -1,24 +1,21 @@
 -- The pids of the living in an array, by age, and what a search there says of a parent.
-use Rattle.std.specs.Prelude.{◌≡◌, refl, Bool, true, false, not, List, [], ◌∷◌, ℕ, zero, suc, ◌+◌, ◌-◌, ◌≤◌, ◌<◌, ltb, length, get_or, drop, set}
+use Rattle.std.specs.Prelude.{◌≡◌, refl, Bool, true, false, List, [], ◌∷◌, ℕ, zero, suc, ◌+◌, ◌≤◌, ◌<◌, ltb, length, get_or, take, drop, set}
 use Rattle.std.proofs.Common.{sym, ap, subst, ◌∙◌, arith, ltb-true, ltb-false, length-set, get_or-set_same, get_or-set_other}
+use Rattle.std.proofs.lemmas.List.{get_or-take, length-take-le}
 use Rattle.machine.specs.Machine.{Sizes}
 use Rattle.layout.specs.Memory.{Memory}
 use Rattle.chain.specs.Lists.{Below, distinct-fits}
 use Rattle.chain.specs.Links.{Links}
 use Rattle.state.specs.Fields as fields
 use Rattle.state.specs.WellFormed.{Used, age_list}
-use Rattle.rules.specs.Code.{Decides}
 use Rattle.rules.specs.Facts.{KinOk}
-use Rattle.kin.specs.Loop.{Answers}
-use Rattle.kin.specs.Link.{kin_link, Linked, Child, link_of_lem, child_of}
+use Rattle.kin.specs.Link.{kin_link, Child, link_of_lem, child_of}
 use Rattle.kin.specs.Age.{Aged, Stands, stands, each_at, rising-at, pid-same}
-use Rattle.kin.specs.Search.{Ordered, Has}
 
--- The array after it is filled.
-pub record Filled (z : Sizes) (m : Memory) (ps : List ℕ) (n : ℕ) : Type 0 where
-  pub count : n ≡ length (age_list z m)
-  pub each : (k : ℕ) → k < n → get_or ps k 0 ≡ m fields.pid (get_or (age_list z m) k 0)
-  pub size : length ps ≡ 4096
+-- The pids of the living, the oldest first.
+pub record Filled (z : Sizes) (m : Memory) (ps : List ℕ) : Type 0 where
+  pub count : length ps ≡ length (age_list z m)
+  pub each : (k : ℕ) → k < length ps → get_or ps k 0 ≡ m fields.pid (get_or (age_list z m) k 0)
 
 -- While it is: k are in it, and the links from `link` spell the rest.
 pub record Filling (z : Sizes) (m : Memory) (ps : List ℕ) (link k : ℕ) : Type 0 where
@@ -73,35 +70,36 @@ fill_start {z} {m} {ps} {link} a s p e =
     }
 
 -- There is room for one more.
-room : {z : Sizes} {m : Memory} {ps : List ℕ} {link k : ℕ} → Filling z m ps link k → (link ≡ 0 → ⊥) → k < 4096
-room {z} {m} {ps} {link} {k} f ne =
-    omega (arith, (step-at (m fields.younger) link (age_list z m) k f.rest ne).below, ages_fit f.aged, f.small)
+room : {z : Sizes} {m : Memory} {ps : List ℕ} {i k : ℕ} → Filling z m ps (suc i) k → k < 4096
+room {z} {m} {ps} {i} {k} f =
+    omega (arith, (step-at (m fields.younger) (suc i) (age_list z m) k f.rest (λ e. omega arith)).below, ages_fit f.aged, f.small)
 
-pub fill-room : {z : Sizes} {m : Memory} {ps : List ℕ} {link k : ℕ} → Filling z m ps link k → (link ≡ 0 → ⊥) → k < length ps
-fill-room {z} {m} {ps} {link} {k} f ne = omega (arith, room f ne, f.size)
+pub fill-room : {z : Sizes} {m : Memory} {ps : List ℕ} {i k : ℕ} → Filling z m ps (suc i) k → k < length ps
+fill-room {z} {m} {ps} {i} {k} f = omega (arith, room f, f.size)
+
+pub fill-index : {z : Sizes} {m : Memory} {ps : List ℕ} {i k : ℕ} → Filling z m ps (suc i) k → i < z.processes
+fill-index f = omega (arith, f.range)
 
 pub fill_more
-    : {z : Sizes} {m : Memory} {ps ps' : List ℕ} {link link' k k' v : ℕ}
-    → Filling z m ps link k
-    → (link ≡ 0 → ⊥)
-    → v ≡ m fields.pid (link - 1)
+    : {z : Sizes} {m : Memory} {ps ps' : List ℕ} {i link' k v : ℕ}
+    → Filling z m ps (suc i) k
+    → v ≡ m fields.pid i
     → ps' ≡ set ps k v
-    → link' ≡ m fields.younger (link - 1)
-    → k' ≡ k + 1
-    → Filling z m ps' link' k'
-fill_more {z} {m} {ps} {ps'} {link} {link'} {k} {k'} {v} f ne e d g q =
-    let s : Step (m fields.younger) link (age_list z m) k = step-at (m fields.younger) link (age_list z m) k f.rest ne in
-    let x : link - 1 ≡ get_or (age_list z m) k 0 = omega (arith, s.here) in
+    → link' ≡ m fields.younger i
+    → Filling z m ps' link' (k + 1)
+fill_more {z} {m} {ps} {ps'} {i} {link'} {k} {v} f e d g =
+    let s : Step (m fields.younger) (suc i) (age_list z m) k = step-at (m fields.younger) (suc i) (age_list z m) k f.rest (λ x. omega arith) in
+    let x : i ≡ get_or (age_list z m) k 0 = omega (arith, s.here) in
     let l : Links (m fields.younger) link' (drop (suc k) (age_list z m)) = rw (g, x) s.rest in
-    let r : k' ≡ suc k = omega arith in
-    let b : k < length ps = omega (arith, room f ne, f.size) in
+    let r : k + 1 ≡ suc k = omega arith in
+    let b : k < length ps = omega (arith, room f, f.size) in
     record {
       aged = f.aged;
       small = f.small;
       size = rw d (length-set ps k v ∙ f.size);
       range = first_below z.processes (m fields.younger) link' (age_list z m) (suc k) f.aged.ages.younger.chain.below l;
       index = omega (arith, s.below);
-      most = omega (arith, room f ne);
+      most = omega (arith, room f);
       rest = rw r l;
       each = λ j h. rw d (go j (omega arith) b x (ltb j k) refl);
     }
@@ -110,7 +108,7 @@ fill_more {z} {m} {ps} {ps'} {link} {link'} {k} {k'} {v} f ne e d g q =
         : (j : ℕ)
         → j ≤ k
         → k < length ps
-        → link - 1 ≡ get_or (age_list z m) k 0
+        → i ≡ get_or (age_list z m) k 0
         → (t : Bool)
         → ltb j k ≡ t
         → get_or (set ps k v) j 0 ≡ m fields.pid (get_or (age_list z m) j 0)
@@ -120,19 +118,33 @@ fill_more {z} {m} {ps} {ps'} {link} {link'} {k} {k'} {v} f ne e d g q =
         subst (λ (y : ℕ). get_or (set ps k v) y 0 ≡ m fields.pid (get_or (age_list z m) y 0)) o
         (get_or-set_same ps k v 0 b ∙ e ∙ ap (m fields.pid) x)
 
-pub fill_end : {z : Sizes} {m : Memory} {ps : List ℕ} {link k : ℕ} → Filling z m ps link k → link ≡ 0 → Filled z m ps k
-fill_end {z} {m} {ps} {link} {k} f e =
-    let l : Links (m fields.younger) 0 (drop k (age_list z m)) = rw e at f.rest in
-    record { count = omega (arith, end-at (m fields.younger) (age_list z m) k l, f.index); each = f.each; size = f.size }
+pub fill_end : {z : Sizes} {m : Memory} {ps : List ℕ} {k : ℕ} → Filling z m ps 0 k → (k ≤ length ps) × Filled z m (take k ps)
+fill_end {z} {m} {ps} {k} f =
+    let h : k ≤ length ps = omega (arith, f.most, f.size) in
+    let n : length (take k ps) ≡ k = length-take-le k ps h in (
+      h,
+      record {
+        count = omega (arith, end-at (m fields.younger) (age_list z m) k f.rest, f.index, n);
+        each = λ j l. get_or-take k ps j 0 (omega (arith, n)) ∙ f.each j (omega (arith, n));
+      },
+    )
 
 -- The pids rise.
-pub filled_rises : {z : Sizes} {m : Memory} {ps : List ℕ} {n : ℕ} → Aged z m → z.processes ≤ 4096 → Filled z m ps n → Ordered ps n
-filled_rises {z} {m} {ps} {n} a s f =
-    record {
-      room = omega (arith, ages_fit a, f.count, f.size);
-      small = omega (arith, ages_fit a, f.count);
-      rising = λ x y h l. rw (f.each x (omega arith), f.each y l) (rising-at (m fields.pid) (age_list z m) a.ages.rising x y h (omega (arith, f.count)));
-    }
+pub filled_rises
+    : {z : Sizes} {m : Memory} {ps : List ℕ} → Aged z m → Filled z m ps → (a b : ℕ) → a ≤ b → b < length ps → get_or ps a 0 ≤ get_or ps b 0
+filled_rises {z} {m} {ps} a f x y h l = go (ltb x y) refl
+  where
+    go : (t : Bool) → ltb x y ≡ t → get_or ps x 0 ≤ get_or ps y 0
+    go true p =
+        rw (f.each x (omega arith), f.each y l)
+        (omega (arith, rising-at (m fields.pid) (age_list z m) a.ages.rising x y (ltb-true x y p) (omega (arith, f.count))))
+    go false p = let e : x ≡ y = omega (arith, ltb-false x y p) in rw e (omega arith)
+
+-- x stands among them.
+pub record Has (ps : List ℕ) (x : ℕ) : Type 0 where
+  pub at : ℕ
+  pub below : at < length ps
+  pub same : get_or ps at 0 ≡ x
 
 -- Who has the pid x lives, and the other way round.
 record Owner (z : Sizes) (m : Memory) (x : ℕ) : Type 0 where
@@ -141,8 +153,8 @@ record Owner (z : Sizes) (m : Memory) (x : ℕ) : Type 0 where
   pub used : Used m record'
   pub same : m fields.pid record' ≡ x
 
-owner_of : {z : Sizes} {m : Memory} {ps : List ℕ} {n x : ℕ} → Aged z m → Filled z m ps n → Has ps n x → Owner z m x
-owner_of {z} {m} {ps} {n} {x} a f h =
+owner_of : {z : Sizes} {m : Memory} {ps : List ℕ} {x : ℕ} → Aged z m → Filled z m ps → Has ps x → Owner z m x
+owner_of {z} {m} {ps} {x} a f h =
     let l : h.at < length (age_list z m) = omega (arith, h.below, f.count) in
     record {
       record' = get_or (age_list z m) h.at 0;
@@ -151,60 +163,43 @@ owner_of {z} {m} {ps} {n} {x} a f h =
       same = sym (f.each h.at h.below) ∙ h.same;
     }
 
-has_of : {z : Sizes} {m : Memory} {ps : List ℕ} {n x : ℕ} → Aged z m → Filled z m ps n → (j : ℕ) → j < z.processes → Used m j → x ≡ m fields.pid j → Has ps n x
-has_of {z} {m} {ps} {n} {x} a f j l u e =
+has_of : {z : Sizes} {m : Memory} {ps : List ℕ} {x : ℕ} → Aged z m → Filled z m ps → (j : ℕ) → j < z.processes → Used m j → x ≡ m fields.pid j → Has ps x
+has_of {z} {m} {ps} {x} a f j l u e =
     let s : Stands (age_list z m) j = stands (age_list z m) j (a.living j l u) in
-    let b : s.at < n = omega (arith, s.below, f.count) in
+    let b : s.at < length ps = omega (arith, s.below, f.count) in
     record { at = s.at; below = b; same = f.each s.at b ∙ ap (m fields.pid) s.same ∙ sym e }
 
 -- Record i names its parent rightly, if it is used.
 abbrev pub Named : Sizes → Memory → ℕ → Type 0
 Named z m i = Used m i → KinOk z m i
 
--- Each way out of the test of one record.
-pub named-free : {z : Sizes} {m : Memory} {i p : ℕ} → Aged z m → p ≡ m fields.pid i → p ≡ 0 → Answers (Named z m i) true
-named-free a e d = record { answer = λ u. absurd (omega (arith, e, u)) }
+pub record ParentOk (z : Sizes) (m : Memory) (i : ℕ) : Type 0 where
+  pub named : Named z m i
 
-pub named_none : {z : Sizes} {m : Memory} {i q : ℕ} → Aged z m → q ≡ m fields.parent i → q ≡ 0 → Answers (Named z m i) true
-named_none {z} {m} {i} {q} a e d = record { answer = λ u j l v s. absurd (omega (arith, v, e, s)) }
+-- Each way out of the test of one record.
+pub named-free : (z : Sizes) (m : Memory) {i p : ℕ} → p ≡ m fields.pid i → p ≡ 0 → Named z m i
+named-free z m e d u = absurd (omega (arith, e, u))
+
+pub named_none : (z : Sizes) (m : Memory) {i q : ℕ} → q ≡ m fields.parent i → q ≡ 0 → Named z m i
+named_none z m {i} {q} e d u j l v s = absurd (omega (arith, v, e, s))
 
 pub named-link
-    : {z : Sizes} {m : Memory} {i l : ℕ} → Aged z m → ((k : ℕ) → m fields.parent_at k ≤ z.processes) → Linked m i l → (l ≡ 0 → ⊥) → Answers (Named z m i) true
-named-link {z} {m} {i} {l} a r k ne = record { answer = λ u. go l k.link ne }
-  where
-    go : (x : ℕ) → x ≡ kin_link m i → (x ≡ 0 → ⊥) → KinOk z m i
-    go zero e n = absurd (n refl)
-    go (suc x) e n = λ j b v s.
-        let c : Child m i x = child_of (sym e) in
-        let w : x < z.processes = omega (arith, r i, c.at) in
-        let y : Used m x = omega (arith, c.has, c.same) in
-        c.at ∙ ap suc (pid-same a x j w b y v (c.same ∙ s))
+    : {z : Sizes} {m : Memory} {i x : ℕ} → Aged z m → ((k : ℕ) → m fields.parent_at k ≤ z.processes) → suc x ≡ kin_link m i → Named z m i
+named-link {z} {m} {i} {x} a r e u j b v s =
+    let c : Child m i x = child_of (sym e) in
+    let w : x < z.processes = omega (arith, r i, c.at) in
+    let y : Used m x = omega (arith, c.has, c.same) in
+    c.at ∙ ap suc (pid-same a x j w b y v (c.same ∙ s))
 
-pub named_search
-    : {z : Sizes} {m : Memory} {ps : List ℕ} {n i p q l : ℕ} {t : Bool}
-    → Aged z m
-    → Filled z m ps n
-    → p ≡ m fields.pid i
-    → (p ≡ 0 → ⊥)
-    → q ≡ m fields.parent i
-    → (q ≡ 0 → ⊥)
-    → Linked m i l
-    → l ≡ 0
-    → Answers (Has ps n q) t
-    → Answers (Named z m i) (not t)
-named_search {z} {m} {ps} {n} {i} {p} {q} {l} {t} a f e ne d nd k lz h = record { answer = go t h.answer }
-  where
-    pos : (x : ℕ) → (x ≡ 0 → ⊥) → 0 < x
-    pos zero w = absurd (w refl)
-    pos (suc x) w = omega arith
+-- Nobody has the parent's pid; somebody has, and is not linked.
+module _ {z : Sizes} {m : Memory} {ps : List ℕ} (a : Aged z m) (f : Filled z m ps) {i q : ℕ} (d : q ≡ m fields.parent i) where
+  pub named-gone : (Has ps q → ⊥) → Named z m i
+  named-gone w u j b v s = absurd (w (has_of a f j b v (d ∙ s)))
 
-    go : (b : Bool) → Decides b (Has ps n q) → Decides (not b) (Named z m i)
-    go true w = λ ok.
-        let o : Owner z m q = owner_of a f w in
-        let u : Used m i = subst (λ (x : ℕ). 0 < x) e (pos p ne) in
-        let v : m fields.parent_at i ≡ suc o.record' = ok u o.record' o.below o.used (sym d ∙ sym o.same) in
-        let c : Child m i o.record' =
-        record { used = u; has = subst (λ (x : ℕ). 0 < x) d (pos q nd); at = v; same = o.same ∙ d }
-        in
-        omega (arith, link_of_lem c, k.link, lz)
-    go false w = λ u j b v s. absurd (w (has_of a f j b v (d ∙ s)))
+  pub named-not : {p : ℕ} → p ≡ m fields.pid i → (p ≡ 0 → ⊥) → (q ≡ 0 → ⊥) → 0 ≡ kin_link m i → Has ps q → Named z m i → ⊥
+  named-not {p} e ne nd k w ok =
+      let o : Owner z m q = owner_of a f w in
+      let u : Used m i = omega (arith, e, ne) in
+      let v : m fields.parent_at i ≡ suc o.record' = ok u o.record' o.below o.used (sym d ∙ sym o.same) in
+      let c : Child m i o.record' = record { used = u; has = omega (arith, d, nd); at = v; same = o.same ∙ d } in
+      omega (arith, link_of_lem c, k)

@@ -1,200 +1,126 @@
 // Whether the records agree on who is whose parent.
 #![tactic(auto)]
 
-ghost use Rattle.std.specs.Prelude.{◌+◌, ◌<◌, ◌≤◌};
+ghost use Rattle.std.specs.Prelude.{◌≡◌, ◌<◌, ◌≤◌, ℕ, length, take, IsTrue, ◌↔◌};
+ghost use Rattle.memory.specs.Link.{link};
 ghost use Rattle.state.specs.Places.{sizes_in};
-ghost use Rattle.rules.specs.Code.{mem_in, Whole, Decides};
-ghost use Rattle.kin.specs.Loop.{Answers, AllBelow};
-ghost use Rattle.kin.specs.Link.{Linked};
-ghost use Rattle.kin.specs.Search.{Ordered, Has};
-ghost use Rattle.kin.specs.Living.{Filled, Named};
-ghost use Rattle.kin.specs.Count.{Bumped, BumpAsks, Counted};
-ghost use Rattle.kin.specs.Kin.{KinAsks, FillAsks, NamedAsks, CountAsks, CountedAsks, KinFacts, Children};
+ghost use Rattle.rules.specs.Code.{mem_in};
+ghost use Rattle.kin.specs.Age.{Aged};
+ghost use Rattle.kin.specs.Link.{kin_link};
+ghost use Rattle.kin.specs.Living.{Filled, ParentOk};
+ghost use Rattle.kin.specs.Count.{Counted};
+ghost use Rattle.kin.specs.Kin.{CountAsks, Children, KinFacts};
 
-use state::{Count, Index, Sizes};
+use rules::Checked;
+use state::{Count, Index, Link, field};
 
 // Puts the pids of the living into the array, the oldest first: how many there are.
-fn fill_pids(s: &[u8], z: Sizes, pids: &mut [u64]) -> Index
-    requires { FillAsks z s.now pids.old }
-    ensures { Filled (sizes_in z) (mem_in z s.now) pids.new result }
+fn fill_pids(v: &Checked, pids: &mut [u64]) -> usize
+    requires aged { Aged (sizes_in v.now.sizes) (mem_in v.now.sizes v.now.bytes.now) }
+    requires size { length pids.old ≡ 4096 }
+    ensures size { result ≤ length pids.new }
+    ensures filled { Filled (sizes_in v.now.sizes) (mem_in v.now.sizes v.now.bytes.now) (take result pids.new) }
 {
-    let mut link = state::get16(s, z, state::HEADER, state::OLDEST, 0);
-    let mut n: Index = 0;
-    while link != 0 {
-        let pid = state::get64(s, z, state::PROCESS, state::PID, link - 1);
-        pids[n as usize] = pid;
-        link = state::get16(s, z, state::PROCESS, state::YOUNGER, link - 1);
+    let v = *v;
+    let mut at = v.get(field::OLDEST, 0);
+    let mut n = 0;
+    while let Some(i) = at {
+        pids[n] = v.get(field::PID, i);
+        at = v.get(field::YOUNGER, i);
         n += 1;
     }
     n
 }
 
-// Is `x` among the first `n`?
-fn has(pids: &[u64], n: Index, x: u64) -> bool
-    requires { Ordered pids.now n }
-    ensures { Answers (Has pids.now n x) result }
+// The record of the living parent of record `i`.
+fn parent_of(v: &Checked, i: Index) -> Link
+    requires { i < v.now.sizes.processes }
+    ensures value { link result ≡ kin_link (mem_in v.now.sizes v.now.bytes.now) i }
+    ensures small { link result ≤ 4096 }
 {
-    let mut lo: Index = 0;
-    let mut hi = n;
-    while lo < hi {
-        let mid = lo + (hi - lo) / 2;
-        let v = pids[mid as usize];
-        if v == x {
-            return true;
-        }
-        if v < x {
-            lo = mid + 1;
-        } else {
-            hi = mid;
-        }
+    if v.get(field::PID, i) == 0 {
+        return None;
     }
-    false
-}
-
-// The link of record `i` to its living parent, 0 for none.
-fn kin_link(s: &[u8], z: Sizes, i: Index) -> Index
-    requires { Whole z s.now × (i < z.processes) }
-    ensures { Linked (mem_in z s.now) i result × (result ≤ 4096) }
-{
-    let pid = state::get64(s, z, state::PROCESS, state::PID, i);
-    if pid == 0 {
-        return 0;
-    }
-    let parent = state::get64(s, z, state::PROCESS, state::PARENT, i);
+    let parent = v.get(field::PARENT, i);
     if parent == 0 {
-        return 0;
+        return None;
     }
-    let link = state::get16(s, z, state::PROCESS, state::PARENT_AT, i);
-    if link == 0 {
-        return 0;
+    let at = v.get(field::PARENT_AT, i)?;
+    if v.get(field::PID, at) == parent {
+        Some(at)
+    } else {
+        None
     }
-    let there = state::get64(s, z, state::PROCESS, state::PID, link - 1);
-    if there == parent {
-        return link;
-    }
-    0
 }
 
-// One more for the record that `link` names.
-fn bump(children: &mut [Count], link: Index)
-    requires { BumpAsks children.old link }
-    ensures { Bumped children.old link children.new }
+// Does record `i` name its parent rightly, if it is used? The pids are those of the living.
+fn parent_ok(v: &Checked, pids: &[u64], i: Index) -> bool
+    requires aged { Aged (sizes_in v.now.sizes) (mem_in v.now.sizes v.now.bytes.now) }
+    requires filled { Filled (sizes_in v.now.sizes) (mem_in v.now.sizes v.now.bytes.now) pids.now }
+    requires index { i < v.now.sizes.processes }
+    ensures { IsTrue result ↔ ParentOk (sizes_in v.now.sizes) (mem_in v.now.sizes v.now.bytes.now) i }
 {
-    if link == 0 {
-        return;
-    }
-    let j = (link - 1) as usize;
-    let v = children[j];
-    children[j] = v + 1;
-}
-
-// Does record `i` name its parent rightly, if it is used?
-fn kin_at(s: &[u8], z: Sizes, pids: &[u64], n: Index, i: Index) -> bool
-    requires { NamedAsks z s.now pids.now n × (i < z.processes) }
-    ensures { Answers (Named (sizes_in z) (mem_in z s.now) i) result }
-{
-    let pid = state::get64(s, z, state::PROCESS, state::PID, i);
-    if pid == 0 {
+    if v.get(field::PID, i) == 0 {
         return true;
     }
-    let parent = state::get64(s, z, state::PROCESS, state::PARENT, i);
+    let parent = v.get(field::PARENT, i);
     if parent == 0 {
         return true;
     }
-    let link = kin_link(s, z, i);
-    if link != 0 {
-        return true;
+    match parent_of(v, i) {
+        Some(_) => true,
+        None => pids.binary_search(&parent).is_err(),
     }
-    let found = has(pids, n, parent);
-    !found
 }
 
 // Does each used record name its parent rightly?
-fn named_ok(s: &[u8], z: Sizes, pids: &[u64], n: Index) -> bool
-    requires { NamedAsks z s.now pids.now n }
-    ensures { Answers (AllBelow (Named (sizes_in z) (mem_in z s.now)) z.processes) result }
+fn parents_ok(v: &Checked) -> bool
+    requires { Aged (sizes_in v.now.sizes) (mem_in v.now.sizes v.now.bytes.now) }
+    ensures { IsTrue result ↔ ((i : ℕ) → i < v.now.sizes.processes → ParentOk (sizes_in v.now.sizes) (mem_in v.now.sizes v.now.bytes.now) i) }
 {
-    let p = z.processes;
-    let mut i: Index = 0;
-    while i < p {
-        if !kin_at(s, z, pids, n, i) {
-            return false;
-        }
-        i += 1;
-    }
-    true
-}
-
-// The same, with an array of its own.
-fn living_ok(s: &[u8], z: Sizes) -> bool
-    requires { KinAsks z s.now }
-    ensures { Answers (AllBelow (Named (sizes_in z) (mem_in z s.now)) z.processes) result }
-{
-    let mut pids = [0u64; 4096];
-    let n = fill_pids(s, z, &mut pids);
-    named_ok(s, z, &pids, n)
+    let v = *v;
+    let mut pids = [0; 4096];
+    let n = fill_pids(&v, &mut pids);
+    let pids = &pids[..n];
+    (0..v.sizes.processes).all(|i| parent_ok(&v, pids, i))
 }
 
 // Counts the children of each record.
-fn count_children(s: &[u8], z: Sizes, children: &mut [Count])
-    requires { CountAsks z s.now children.old }
-    ensures { Counted (mem_in z s.now) z.processes children.new }
+fn count_children(v: &Checked, children: &mut [Count])
+    requires { CountAsks children.old }
+    ensures { Counted (mem_in v.now.sizes v.now.bytes.now) v.now.sizes.processes children.new }
 {
-    let p = z.processes;
-    let mut i: Index = 0;
-    while i < p {
-        let link = kin_link(s, z, i);
-        bump(children, link);
-        i += 1;
-    }
-}
-
-// Has record `j`, if it is used, as many children as it says?
-fn child_ok(s: &[u8], z: Sizes, children: &[Count], j: Index) -> bool
-    requires { CountedAsks z s.now children.now × (j < z.processes) }
-    ensures { Answers (Children (sizes_in z) (mem_in z s.now) j) result }
-{
-    let pid = state::get64(s, z, state::PROCESS, state::PID, j);
-    if pid == 0 {
-        return true;
-    }
-    let v = state::get16(s, z, state::PROCESS, state::NCHILD, j);
-    v == children[j as usize]
-}
-
-// Has each used record as many children as it says?
-fn children_ok(s: &[u8], z: Sizes, children: &[Count]) -> bool
-    requires { CountedAsks z s.now children.now }
-    ensures { Answers (AllBelow (Children (sizes_in z) (mem_in z s.now)) z.processes) result }
-{
-    let p = z.processes;
-    let mut i: Index = 0;
-    while i < p {
-        if !child_ok(s, z, children, i) {
-            return false;
+    let v = *v;
+    for i in 0..v.sizes.processes {
+        if let Some(j) = parent_of(&v, i) {
+            children[j as usize] += 1;
         }
-        i += 1;
     }
-    true
 }
 
-// The same, with an array of its own.
-fn nchild_ok(s: &[u8], z: Sizes) -> bool
-    requires { Whole z s.now }
-    ensures { Answers (AllBelow (Children (sizes_in z) (mem_in z s.now)) z.processes) result }
+// Has record `j`, if it is used, as many children as were counted?
+fn child_count_ok(v: &Checked, children: &[Count], j: Index) -> bool
+    requires counted { Counted (mem_in v.now.sizes v.now.bytes.now) v.now.sizes.processes children.now }
+    requires index { j < v.now.sizes.processes }
+    ensures { IsTrue result ↔ Children (sizes_in v.now.sizes) (mem_in v.now.sizes v.now.bytes.now) j }
 {
-    let mut children = [0u16; 4096];
-    count_children(s, z, &mut children);
-    children_ok(s, z, &children)
+    v.get(field::PID, j) == 0 || v.get(field::NCHILD, j) == children[j as usize]
+}
+
+// Has each used record as many children as name it?
+fn child_counts_ok(v: &Checked) -> bool
+    ensures { IsTrue result ↔ ((j : ℕ) → j < v.now.sizes.processes → Children (sizes_in v.now.sizes) (mem_in v.now.sizes v.now.bytes.now) j) }
+{
+    let v = *v;
+    let mut children = [0; 4096];
+    count_children(&v, &mut children);
+    (0..v.sizes.processes).all(|j| child_count_ok(&v, &children, j))
 }
 
 // Do the records agree on who is whose parent, and on how many children each has?
-pub fn kin_ok(s: &[u8], z: Sizes) -> bool
-    requires { KinAsks z s.now }
-    ensures { Decides result (KinFacts (sizes_in z) (mem_in z s.now)) }
+pub fn kin_ok(v: &Checked) -> bool
+    requires { Aged (sizes_in v.now.sizes) (mem_in v.now.sizes v.now.bytes.now) }
+    ensures { IsTrue result ↔ KinFacts (sizes_in v.now.sizes) (mem_in v.now.sizes v.now.bytes.now) }
 {
-    if !living_ok(s, z) {
-        return false;
-    }
-    nchild_ok(s, z)
+    parents_ok(v) && child_counts_ok(v)
 }

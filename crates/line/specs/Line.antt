@@ -1,6 +1,5 @@
 -- What a line of the listing asks and ensures.
 use Rattle.std.specs.Prelude.{◌≡◌, Bool, true, false, List, ◌++◌, ℕ, ◌+◌, ◌*◌, ◌≤◌, length, drop}
-use Rattle.std.proofs.Common.{sym, ap, ◌∙◌}
 use Rattle.std.proofs.Math.Option.{Option}
 use Rattle.machine.specs.Step.{Step}
 use Rattle.machine.specs.Outcome as machine
@@ -12,7 +11,7 @@ use Rattle.holds.specs.Touched.{Spares}
 use Rattle.outcome.specs.Means.{told}
 use Rattle.outcome.specs.Stepped.{Well}
 use Rattle.decode.specs.declared.Call.{Call}
-use Rattle.decode.specs.declared.Call.TheVariants.{None, Start, Rfork, Name, Sched, Yield, Sleep, Tsleep, Wakeup, Qlock, Canqlock, Qunlock, Cond, Clock, Tadd, Tdel, Intr, Due, Exit, Wait}
+use Rattle.decode.specs.declared.Call.TheVariants.{Start, Rfork, Name, Sched, Yield, Sleep, Tsleep, Wakeup, Qlock, Canqlock, Qunlock, Cond, Clock, Tadd, Tdel, Intr, Due, Exit, Wait}
 use Rattle.print.specs.Put.{Put}
 use Rattle.parse.specs.Parsed.{Parsed}
 
@@ -30,11 +29,9 @@ pub record StepAsks (z : Sizes) (s b m out : List ℕ) (at : ℕ) : Type 0 where
   pub message : length m ≡ 127
   pub room : at + line_most z ≤ length out
 
--- The same, with room for the bytes of a line's step.
-pub record LineAsks (z : Sizes) (s b m out : List ℕ) (at : ℕ) : Type 0 where
+-- The same, of a line.
+pub record LineAsks (z : Sizes) (s out : List ℕ) (at : ℕ) : Type 0 where
   pub well : Well z s
-  pub step : length b ≡ step_most
-  pub message : length m ≡ 127
   pub room : at + line_most z ≤ length out
 
 -- The message buffer m after a reply: the message told at its front, its other bytes as they were.
@@ -58,7 +55,6 @@ pub record LineTaken (z : Sizes) (s s' : List ℕ) (n : ℕ) (x : Option Step) (
 
 -- Whether a call is an `exit`.
 abbrev pub is_exit : Call → Bool
-is_exit None = false
 is_exit (Start m) = false
 is_exit (Rfork f m) = false
 is_exit (Name n) = false
@@ -78,6 +74,3 @@ is_exit (Intr now) = false
 is_exit Due = false
 is_exit (Exit n) = true
 is_exit Wait = false
-
-pub case_is : {c d : Call} {r : Bool} → c ≡ d → r ≡ is_exit d → r ≡ is_exit c
-case_is e h = h ∙ ap is_exit (sym e)

@@ -1,5 +1,5 @@
 -- The text that a line prints: the status that an `exit` was given, or the message.
-use Rattle.std.specs.Prelude.{if◌then◌else◌, ◌≡◌, refl, Bool, true, false, not, List, [], ◌∷◌, ℕ, eqb, ltb}
+use Rattle.std.specs.Prelude.{if◌then◌else◌, ◌≡◌, refl, Bool, true, false, not, List, [], ◌∷◌, ℕ, eqb, ltb, Result, Ok, Err}
 use Rattle.std.proofs.Common.{true≢false}
 use Rattle.std.proofs.Math.Option.{Option, none, some}
 use Rattle.machine.specs.Basics.{is_empty}
@@ -13,7 +13,8 @@ use Rattle.machine.specs.Timers.{own_timer, is_queued}
 use Rattle.machine.specs.StepOf.{step_of, outcome_of, refusing}
 use Rattle.machine.specs.Table.{refusal}
 use Rattle.outcome.specs.declared.Reply.{Reply}
-use Rattle.outcome.specs.declared.Reply.TheVariants.{Pid, Run, RunChild, Done, Asleep, Yes, No, Fired, Exit, Child, Idle, End, Refused}
+use Rattle.outcome.specs.declared.Refusal.{Refusal}
+use Rattle.outcome.specs.declared.Reply.TheVariants.{Pid, Run, RunChild, Done, Asleep, Yes, No, Fired, Exit, Child, Idle, End}
 use Rattle.outcome.specs.Means.{means, told}
 use Rattle.proc.specs.Silent.{tells, is_child, silent}
 
@@ -130,37 +131,37 @@ unfolding outcome_of refusing
 given-silent m x k e = either is_child (ltb k 127) _ _ refl (silent m x e)
 
 -- A reply that tells no message means the same with another buffer, and one that tells of no exit with another status.
-pub other-buffer : (r : Reply) (m m' st : List ℕ) → is_child (means r m st) ≡ false → means r m' st ≡ means r m st
+pub other-buffer : (r : Result Reply Refusal) (m m' st : List ℕ) → is_child (means r m st) ≡ false → means r m' st ≡ means r m st
 unfolding means
-other-buffer (Pid n) m m' st e = refl
-other-buffer (Run n) m m' st e = refl
-other-buffer (RunChild n c l) m m' st e = absurd (true≢false e)
-other-buffer Done m m' st e = refl
-other-buffer Asleep m m' st e = refl
-other-buffer Yes m m' st e = refl
-other-buffer No m m' st e = refl
-other-buffer (Fired f k) m m' st e = refl
-other-buffer (Exit n) m m' st e = refl
-other-buffer (Child n l) m m' st e = absurd (true≢false e)
-other-buffer Idle m m' st e = refl
-other-buffer End m m' st e = refl
-other-buffer (Refused n) m m' st e = refl
+other-buffer (Ok (Pid n)) m m' st e = refl
+other-buffer (Ok (Run n)) m m' st e = refl
+other-buffer (Ok (RunChild n c l)) m m' st e = absurd (true≢false e)
+other-buffer (Ok Done) m m' st e = refl
+other-buffer (Ok Asleep) m m' st e = refl
+other-buffer (Ok Yes) m m' st e = refl
+other-buffer (Ok No) m m' st e = refl
+other-buffer (Ok (Fired f k)) m m' st e = refl
+other-buffer (Ok (Exit n)) m m' st e = refl
+other-buffer (Ok (Child n l)) m m' st e = absurd (true≢false e)
+other-buffer (Ok Idle) m m' st e = refl
+other-buffer (Ok End) m m' st e = refl
+other-buffer (Err n) m m' st e = refl
 
-pub other_status : (r : Reply) (m st st' : List ℕ) → tells_exit (means r m st) ≡ false → means r m st' ≡ means r m st
+pub other_status : (r : Result Reply Refusal) (m st st' : List ℕ) → tells_exit (means r m st) ≡ false → means r m st' ≡ means r m st
 unfolding means
-other_status (Pid n) m st st' e = refl
-other_status (Run n) m st st' e = refl
-other_status (RunChild n c l) m st st' e = refl
-other_status Done m st st' e = refl
-other_status Asleep m st st' e = refl
-other_status Yes m st st' e = refl
-other_status No m st st' e = refl
-other_status (Fired f k) m st st' e = refl
-other_status (Exit n) m st st' e = absurd (true≢false e)
-other_status (Child n l) m st st' e = refl
-other_status Idle m st st' e = refl
-other_status End m st st' e = refl
-other_status (Refused n) m st st' e = refl
+other_status (Ok (Pid n)) m st st' e = refl
+other_status (Ok (Run n)) m st st' e = refl
+other_status (Ok (RunChild n c l)) m st st' e = refl
+other_status (Ok Done) m st st' e = refl
+other_status (Ok Asleep) m st st' e = refl
+other_status (Ok Yes) m st st' e = refl
+other_status (Ok No) m st st' e = refl
+other_status (Ok (Fired f k)) m st st' e = refl
+other_status (Ok (Exit n)) m st st' e = absurd (true≢false e)
+other_status (Ok (Child n l)) m st st' e = refl
+other_status (Ok Idle) m st st' e = refl
+other_status (Ok End) m st st' e = refl
+other_status (Err n) m st st' e = refl
 
 -- A reply that tells no message has none.
 pub silent-told : (r : machine.Reply) → is_child r ≡ false → told r ≡ []

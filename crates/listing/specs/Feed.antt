@@ -6,19 +6,17 @@ use Rattle.state.specs.declared.Sizes.{Sizes}
 use Rattle.holds.specs.Did.{machine_in}
 use Rattle.outcome.specs.Stepped.{Well}
 use Rattle.print.specs.Put.{Put}
-use Rattle.line.specs.Line.{step_most, line_most}
-use Rattle.listing.specs.declared.Fed.{Fed}
+use Rattle.line.specs.Line.{line_most}
+use Rattle.listing.specs.Fed.{Fed}
 use Rattle.listing.specs.Behind.{Behind}
 use Rattle.listing.specs.Lines.{machine_after}
 use Rattle.listing.specs.Pieces.{piece}
 use Rattle.listing.specs.Held.{held_most, HeldIs}
 
--- Rooms of their sizes, places within them, and numbers left for every line of the chunk.
-pub record FeedAsks (z : Sizes) (s chunk held b m out : List ℕ) (f : Fed) : Type 0 where
+-- Room for the line begun, places within their buffers, and numbers left for every line of the chunk.
+pub record FeedAsks (z : Sizes) (s chunk held out : List ℕ) (f : Fed) : Type 0 where
   pub well : Well z s
   pub line : length held ≡ held_most
-  pub step : length b ≡ step_most
-  pub message : length m ≡ 127
   pub few : f.have ≤ held_most
   pub within : f.from ≤ length chunk
   pub used : f.used ≤ length out

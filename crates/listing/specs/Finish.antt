@@ -14,32 +14,19 @@ use Rattle.state.specs.declared.Sizes.{Sizes}
 use Rattle.holds.specs.Did.{machine_in}
 use Rattle.outcome.specs.Stepped.{Well}
 use Rattle.print.specs.Put.{Put, put_of, put-none, put_as}
-use Rattle.line.specs.Line.{step_most, line_most, LineTaken}
-use Rattle.listing.specs.declared.Fed.{Fed}
+use Rattle.line.specs.Line.{line_most, LineTaken}
+use Rattle.listing.specs.Fed.{Fed}
 use Rattle.listing.specs.Behind.{Behind, behind-none, behind-step}
 use Rattle.listing.specs.Lines.{lines-last, machine_after}
 use Rattle.listing.specs.Held.{held_most, HeldIs, Kept, held-parse, up_to}
 
--- The first line is kept at the front of the buffer.
-pub begin-put : {out text out' : List ℕ} {r : ℕ} → 34 ≤ length out → text ≡ header → Kept out 0 text out' r → Put 34 out 0 header out' r
-unfolding header ascii
-begin-put {out} {text} {out'} {r} h e k =
-    let l : length text ≡ 34 = ap length e in
-    let q : r - 0 ≡ length text = omega (arith, k.ends) in
-    put_as {m = 34}
-    (put_of (k.bytes ∙ rw (q, take-length text)) (omega (arith, k.ends)) (omega arith) (omega arith))
-    e
-    (omega arith)
-
-pub record FinishAsks (z : Sizes) (s held b m out : List ℕ) (f : Fed) : Type 0 where
+pub record FinishAsks (z : Sizes) (s held out : List ℕ) (f : Fed) : Type 0 where
   pub well : Well z s
   pub line : length held ≡ held_most
-  pub step : length b ≡ step_most
-  pub message : length m ≡ 127
   pub few : f.have ≤ held_most
   pub room : f.used + line_most z ≤ length out
 
-pub finish-within : {z : Sizes} {s held b m out : List ℕ} {f : Fed} → FinishAsks z s held b m out f → f.have ≡ length (take f.have held)
+pub finish-within : {z : Sizes} {s held out : List ℕ} {f : Fed} → FinishAsks z s held out f → f.have ≡ length (take f.have held)
 finish-within {held = held} {f = f} a = sym (length-take-le f.have held (omega (arith, a.line, a.few)))
 
 -- The line begun, where there is one, was the last: it is taken, and its line put. The bytes behind the state stay.
@@ -53,12 +40,12 @@ pub record Finished (z : Sizes) (s held out : List ℕ) (f : Fed) (s' out' : Lis
 
 -- No line is begun.
 pub finish-none
-    : {z : Sizes} {s held b m out : List ℕ} {f : Fed}
-    → FinishAsks z s held b m out f
+    : {z : Sizes} {s held out : List ℕ} {f : Fed}
+    → FinishAsks z s held out f
     → f.have ≡ 0
     → Finished z s held out f s out f.used
 unfolding machine_after print_from lines_of
-finish-none {z} {s} {held} {b} {m} {out} {f} a e =
+finish-none {z} {s} {held} {out} {f} a e =
     let nothing : (h : List ℕ) → HeldIs held f.have h → h ≡ [] = λ h c. c.short (omega arith) ∙ ap (λ (k : ℕ). take k held) e in
     record {
       well = a.well;
@@ -71,13 +58,13 @@ finish-none {z} {s} {held} {b} {m} {out} {f} a e =
 
 -- A line is begun.
 pub finish-line
-    : {z : Sizes} {s held b m out : List ℕ} {f : Fed} {s' b' m' out' : List ℕ} {r : ℕ}
-    → FinishAsks z s held b m out f
+    : {z : Sizes} {s held out : List ℕ} {f : Fed} {s' b b' m m' out' : List ℕ} {r : ℕ}
+    → FinishAsks z s held out f
     → (f.have ≡ 0 → ⊥)
     → LineTaken z s s' f.n (parse_line (take f.have held)) b b' m m' out f.used out' r
     → Finished z s held out f s' out' r
 unfolding machine_after print_from
-finish-line {z} {s} {held} {b} {m} {out} {f} {s'} {r = r} a e t =
+finish-line {z} {s} {held} {out} {f} {s'} {r = r} a e t =
     let x : Option Step = parse_line (take f.have held) in
     let o : Option Step → Outcome = λ y. outcome_of (machine_in z s) y 127 in
     let parsed : (h : List ℕ) → HeldIs held f.have h → x ≡ parse_line h = λ h c. held-parse a.line a.few c in

@@ -1,13 +1,12 @@
 -- The line begun, of which at most 4,097 bytes are held.
-use Rattle.std.specs.Prelude.{◌≡◌, refl, List, ◌++◌, ℕ, ◌+◌, ◌-◌, ◌≤◌, ◌<◌, min, length, get_or, take, drop, set}
-use Rattle.std.proofs.Common.{sym, ap, ◌∙◌, add-one, arith, length-append, length-set, length-take-le, get_or-take, get_or-drop}
+use Rattle.std.specs.Prelude.{◌≡◌, refl, List, ◌++◌, ℕ, ◌+◌, ◌-◌, ◌≤◌, ◌<◌, min, length, take}
+use Rattle.std.proofs.Common.{sym, ap, ◌∙◌, arith, length-append, length-take-le}
 use Rattle.std.proofs.Math.Decide.{dec_le}
-use Rattle.std.proofs.Math.Seq.{take-length, paste, paste-zero, paste-suc}
-use Rattle.std.proofs.lemmas.List.Edits.{take-paste}
+use Rattle.std.proofs.Math.Seq.{take-length, paste}
+use Rattle.std.proofs.lemmas.List.Edits.{length-paste, take-paste}
 use Rattle.lists.specs.Lists.{each_append}
 use Rattle.machine.specs.Parse.{parse_line}
 use Rattle.listing.specs.Lines.{NoEnd, parse-long}
-use Rattle.listing.specs.Pieces.{piece, length-piece}
 
 -- There is room for a line of 4,096 bytes and one more.
 abbrev pub held_most : ℕ
@@ -19,63 +18,26 @@ pub record HeldIs (held : List ℕ) (have : ℕ) (h : List ℕ) : Type 0 where
   pub short : have ≤ 4096 → h ≡ take have held
   pub long : 4096 < have → 4096 < length h
 
--- What `keep` asks: from one place to another of the chunk, behind what is held.
-pub record KeepAsks (held : List ℕ) (have : ℕ) (chunk : List ℕ) (from to : ℕ) : Type 0 where
-  pub few : have ≤ length held
-  pub order : from ≤ to
-  pub within : to ≤ length chunk
-
 -- The bytes of a text are kept behind those held, as far as there is room; then r are held.
 pub record Kept (held : List ℕ) (have : ℕ) (text held' : List ℕ) (r : ℕ) : Type 0 where
   pub ends : r ≡ min (have + length text) (length held)
   pub bytes : held' ≡ paste held have text (r - have)
   pub long : length held' ≡ length held
 
--- i bytes are kept so far, of n
-pub record Keeping (held : List ℕ) (have : ℕ) (chunk : List ℕ) (from to n : ℕ) (held' : List ℕ) (i : ℕ) : Type 0 where
-  pub within : i ≤ n
-  pub most : n ≡ min (to - from) (length held - have)
-  pub bytes : held' ≡ paste held have (piece chunk from to) i
-  pub long : length held' ≡ length held
-
-pub keep-start
-    : {held : List ℕ} {have : ℕ} {chunk : List ℕ} {from to n : ℕ}
-    → n ≡ min (to - from) (length held - have)
-    → Keeping held have chunk from to n held 0
-keep-start {held} {have} {chunk} {from} {to} {n} e =
-    record { within = omega arith; most = e; bytes = paste-zero held have (piece chunk from to); long = refl }
-
-pub keep-more
-    : {held : List ℕ} {have : ℕ} {chunk : List ℕ} {from to n : ℕ} {held₁ held₂ : List ℕ} {i : ℕ}
-    → KeepAsks held have chunk from to
-    → Keeping held have chunk from to n held₁ i
-    → i < n
-    → held₂ ≡ set held₁ (have + i) (get_or chunk (from + i) 0)
-    → Keeping held have chunk from to n held₂ (i + 1)
-keep-more {held} {have} {chunk} {from} {to} {n} {held₁} {held₂} {i} a w h e =
-    let g : get_or (piece chunk from to) i 0 ≡ get_or chunk (from + i) 0 =
-    get_or-take (to - from) (drop from chunk) i 0 (omega (arith, w.most)) ∙ get_or-drop from chunk i 0
-    in
-    let l : length (piece chunk from to) ≡ to - from = length-piece chunk from to a.order a.within in
+-- The first n bytes of a text are pasted, as many as there is room for.
+pub kept
+    : (held : List ℕ) (have : ℕ) (text held' : List ℕ) (n : ℕ)
+    → have ≤ length held
+    → n ≡ min (length text) (length held - have)
+    → held' ≡ paste held have text n
+    → Kept held have text held' (have + n)
+kept held have text held' n h e p =
+    let d : have + n - have ≡ n = omega arith in
     record {
-      within = omega arith;
-      most = w.most;
-      bytes =
-          rw (add-one i, e, w.bytes, ← g)
-          (paste-suc held have (piece chunk from to) i 0 (omega (arith, w.most)) (omega (arith, w.most)));
-      long = rw e (length-set held₁ (have + i) (get_or chunk (from + i) 0) ∙ w.long);
+      ends = omega arith;
+      bytes = rw d p;
+      long = ap length p ∙ length-paste held have text n (omega arith) (omega arith);
     }
-
-pub keep-end
-    : {held : List ℕ} {have : ℕ} {chunk : List ℕ} {from to n : ℕ} {held₁ : List ℕ} {i : ℕ}
-    → KeepAsks held have chunk from to
-    → Keeping held have chunk from to n held₁ i
-    → n ≤ i
-    → Kept held have (piece chunk from to) held₁ (have + n)
-keep-end {held} {have} {chunk} {from} {to} {n} {held₁} {i} a w h =
-    let l : length (piece chunk from to) ≡ to - from = length-piece chunk from to a.order a.within in
-    let d : have + n - have ≡ i = omega (arith, w.within) in
-    record { ends = omega (arith, w.most, a.few); bytes = rw d w.bytes; long = w.long }
 
 -- What is held lies within the buffer.
 pub kept-within : {held : List ℕ} {have : ℕ} {text held' : List ℕ} {r : ℕ} → Kept held have text held' r → r ≡ length (take r held')

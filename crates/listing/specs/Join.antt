@@ -7,7 +7,7 @@ use Rattle.machine.specs.Listing.{print_from}
 use Rattle.state.specs.declared.Sizes.{Sizes}
 use Rattle.holds.specs.Did.{machine_in}
 use Rattle.print.specs.Put.{put-none, put_join}
-use Rattle.listing.specs.declared.Fed.{Fed}
+use Rattle.listing.specs.Fed.{Fed}
 use Rattle.listing.specs.Behind.{behind-none, behind_join}
 use Rattle.listing.specs.Lines.{machine_after, after-append, print_append}
 use Rattle.listing.specs.Pieces.{piece, piece-none, piece_join}
@@ -15,9 +15,9 @@ use Rattle.listing.specs.Feed.{FeedAsks, Follows, Went}
 use Rattle.listing.specs.Turn.{put-tight}
 
 -- Nothing is read.
-pub went-none : {z : Sizes} {s chunk held b m out : List ℕ} {f : Fed} → FeedAsks z s chunk held b m out f → Went z chunk s held out f s held out f
+pub went-none : {z : Sizes} {s chunk held out : List ℕ} {f : Fed} → FeedAsks z s chunk held out f → Went z chunk s held out f s held out f
 unfolding machine_after print_from
-went-none {z} {s} {chunk} {held} {b} {m} {out} {f} a =
+went-none {z} {s} {chunk} {held} {out} {f} a =
     record {
       well = a.well;
       behind = behind-none;

@@ -3,6 +3,7 @@ pub mod Behind
 pub mod Lines
 pub mod Pieces
 pub mod Held
+pub mod Fed
 pub mod Feed
 pub mod Turn
 pub mod Join

@@ -1,8 +1,8 @@
 -- Pieces of a chunk, and where a line ends in it.
-use Rattle.std.specs.Prelude.{◌≡◌, true, false, not, List, [], ◌∷◌, ◌++◌, ℕ, ◌+◌, ◌-◌, ◌≤◌, ◌<◌, eqb, length, get_or, take, drop}
-use Rattle.std.proofs.Common.{sym, ap, subst, ◌∙◌, arith, eqb-true, length-drop, length-take-le, take_all, drop-drop, drop-cons, take-add}
-use Rattle.std.proofs.lemmas.Bool.{eqb-false, not-true, not-false}
-use Rattle.lists.specs.Lists.{each_append}
+use Rattle.std.specs.Prelude.{◌≡◌, refl, Bool, true, false, not, cond, ◌==◌, List, [], ◌∷◌, ◌++◌, ℕ, suc, ◌+◌, ◌-◌, ◌≤◌, ◌<◌, eqb, ltb, length, get_or, take, drop, Option, Some, None, MatchOption}
+use Rattle.std.specs.List.{position, position_or_len}
+use Rattle.std.proofs.Common.{sym, ap, ◌∙◌, arith, eqb-true, ltb-true, ltb-false, length-drop, length-take-le, take_all, drop-drop, drop-cons, take-add, get_or-drop}
+use Rattle.std.proofs.lemmas.Bool.{eqb-false}
 use Rattle.listing.specs.Lines.{NoEnd}
 
 -- The bytes of a chunk from one place to another.
@@ -42,29 +42,64 @@ pub record Seeking (chunk : List ℕ) (from i : ℕ) : Type 0 where
   pub high : i ≤ length chunk
   pub none : NoEnd (piece chunk from i)
 
-pub seek_start : {chunk : List ℕ} {from : ℕ} → from ≤ length chunk → Seeking chunk from from
-seek_start {chunk} {from} h =
-    record { low = omega arith; high = h; none = subst NoEnd (sym (piece-none chunk from)) tt }
-
-pub seek_more : {chunk : List ℕ} {from i : ℕ} → Seeking chunk from i → i < length chunk → not (eqb (get_or chunk i 0) 10) ≡ true → Seeking chunk from (i + 1)
-seek_more {chunk} {from} {i} w h e =
-    let other : get_or chunk i 0 ≡ 10 → ⊥ = eqb-false (get_or chunk i 0) 10 (not-true (eqb (get_or chunk i 0) 10) e) in
-    record {
-      low = omega (arith, w.low);
-      high = omega arith;
-      none =
-          subst NoEnd (piece_join chunk from i (i + 1) w.low (omega arith))
-          (each_append (λ (b : ℕ). b ≡ 10 → ⊥) (piece chunk from i) (piece chunk i (i + 1)) w.none (rw (piece-one chunk i h) (other, tt)));
-    }
-
 -- The first line end from `from` on is at r; r is the chunk's length where there is none.
 pub record LineEnd (chunk : List ℕ) (from r : ℕ) : Type 0 where
   pub before : Seeking chunk from r
   pub found : r < length chunk → get_or chunk r 0 ≡ 10
 
-pub seek_none : {chunk : List ℕ} {from i : ℕ} → Seeking chunk from i → length chunk ≤ i → LineEnd chunk from i
-seek_none w h = record { before = w; found = λ k. absurd (omega arith) }
+-- The place of the first line end in some bytes, or their length.
+abbrev end_in : List ℕ → ℕ
+end_in xs = position_or_len (λ (b : ℕ). b == 10) xs
 
-pub seek_found : {chunk : List ℕ} {from i : ℕ} → Seeking chunk from i → not (eqb (get_or chunk i 0) 10) ≡ false → LineEnd chunk from i
-seek_found {chunk} {from} {i} w e =
-    record { before = w; found = λ k. eqb-true (get_or chunk i 0) 10 (not-false (eqb (get_or chunk i 0) 10) e) }
+none_before : (xs : List ℕ) → NoEnd (take (end_in xs) xs)
+none_before [] = tt
+none_before (b ∷ bs) = go (eqb b 10) refl (none_before bs)
+  where
+    go : (c : Bool) → eqb b 10 ≡ c → NoEnd (take (end_in bs) bs) → NoEnd (take (cond (not c) (1 + end_in bs) 0) (b ∷ bs))
+    go true e r = tt
+    go false e r = let n : 1 + end_in bs ≡ suc (end_in bs) = omega arith in rw n (eqb-false b 10 e, r)
+
+end-there : (xs : List ℕ) → end_in xs < length xs → get_or xs (end_in xs) 0 ≡ 10
+end-there [] h = absurd (omega arith)
+end-there (b ∷ bs) h = go (eqb b 10) refl h (end-there bs)
+  where
+    go : (c : Bool) → eqb b 10 ≡ c → cond (not c) (1 + end_in bs) 0 < suc (length bs)
+        → (end_in bs < length bs → get_or bs (end_in bs) 0 ≡ 10)
+        → get_or (b ∷ bs) (cond (not c) (1 + end_in bs) 0) 0 ≡ 10
+    go true e k r = eqb-true b 10 e
+    go false e k r = let n : 1 + end_in bs ≡ suc (end_in bs) = omega arith in rw n (r (omega arith))
+
+-- What the place of the first line end from `from` on says of a chunk.
+pub line_ends : (chunk : List ℕ) (from : ℕ) (o : Option ℕ) → from ≤ length chunk → o ≡ position (λ (b : ℕ). b == 10) (drop from chunk)
+    → MatchOption o (LineEnd chunk from (length chunk)) (λ i. LineEnd chunk from (from + i))
+line_ends chunk from o h e = rw e (go (ltb (end_in xs) (length xs)) refl)
+  where
+    xs : List ℕ
+    xs = drop from chunk
+
+    go : (c : Bool) → ltb (end_in xs) (length xs) ≡ c
+        → MatchOption (cond c (Some (end_in xs)) None) (LineEnd chunk from (length chunk)) (λ i. LineEnd chunk from (from + i))
+    go true t =
+        let l : end_in xs < length xs = ltb-true (end_in xs) (length xs) t in
+        let n : from + end_in xs - from ≡ end_in xs = omega arith in
+        record {
+          before =
+              record {
+                low = omega arith;
+                high = omega (arith, length-drop from chunk);
+                none = rw n (none_before xs);
+              };
+          found = λ k. sym (get_or-drop from chunk (end_in xs) 0) ∙ end-there xs l;
+        }
+    go false t =
+        let l : length xs ≤ end_in xs = ltb-false (end_in xs) (length xs) t in
+        let all : take (end_in xs) xs ≡ xs = take_all (end_in xs) xs l in
+        record {
+          before =
+              record {
+                low = h;
+                high = omega arith;
+                none = rw (piece-rest chunk from) (rw all at (none_before xs));
+              };
+          found = λ k. absurd (omega arith);
+        }

@@ -13,22 +13,23 @@ use Rattle.state.specs.declared.Sizes.{Sizes}
 use Rattle.holds.specs.Did.{machine_in}
 use Rattle.print.specs.Put.{Put, put-none}
 use Rattle.line.specs.Line.{line_most, LineTook, LineTaken}
-use Rattle.listing.specs.declared.Fed.{Fed}
+use Rattle.listing.specs.Fed.{Fed}
 use Rattle.listing.specs.Behind.{behind-none, behind-step}
-use Rattle.listing.specs.Lines.{lines_cons, machine_after}
+use Rattle.outcome.specs.Stepped.{Well}
+use Rattle.listing.specs.Lines.{NoEnd, lines_cons, machine_after}
 use Rattle.listing.specs.Pieces.{piece, piece_join, piece-one, LineEnd}
 use Rattle.listing.specs.Feed.{FeedAsks, Went}
-use Rattle.listing.specs.Held.{HeldIs, Kept, held_more, held-parse}
+use Rattle.listing.specs.Held.{held_most, HeldIs, Kept, held_more, held-parse}
 
 -- A byte to read, and room for a line.
-pub record TurnAsks (z : Sizes) (s chunk held b m out : List ℕ) (f : Fed) : Type 0 where
-  pub asks : FeedAsks z s chunk held b m out f
+pub record TurnAsks (z : Sizes) (s chunk held out : List ℕ) (f : Fed) : Type 0 where
+  pub asks : FeedAsks z s chunk held out f
   pub more : f.from < length chunk
   pub room : f.used + line_most z ≤ length out
 
 -- The line goes on to `end` and ends there.
-pub record EndedAsks (z : Sizes) (s chunk held b m out : List ℕ) (f : Fed) (end : ℕ) : Type 0 where
-  pub turn : TurnAsks z s chunk held b m out f
+pub record EndedAsks (z : Sizes) (s chunk held out : List ℕ) (f : Fed) (end : ℕ) : Type 0 where
+  pub turn : TurnAsks z s chunk held out f
   pub line : LineEnd chunk f.from end
   pub inside : end < length chunk
 
@@ -44,14 +45,14 @@ put-tight p =
 
 -- The chunk ends before the line does: the rest of it is kept.
 pub turn-keep
-    : {z : Sizes} {s chunk held b m out : List ℕ} {f : Fed} {end kept : ℕ} {held' : List ℕ}
-    → TurnAsks z s chunk held b m out f
+    : {z : Sizes} {s chunk held out : List ℕ} {f : Fed} {end kept : ℕ} {held' : List ℕ}
+    → TurnAsks z s chunk held out f
     → LineEnd chunk f.from end
     → length chunk ≤ end
     → Kept held f.have (piece chunk f.from end) held' kept
     → Turned z chunk s held out f s held' out (record { from = end; have = kept; n = f.n; used = f.used })
 unfolding machine_after print_from
-turn-keep {z} {s} {chunk} {held} {b} {m} {out} {f} {end} {kept} {held'} a l e k =
+turn-keep {z} {s} {chunk} {held} {out} {f} {end} {kept} {held'} a l e k =
     record {
       went =
           record {
@@ -77,15 +78,68 @@ turn-keep {z} {s} {chunk} {held} {b} {m} {out} {f} {end} {kept} {held'} a l e k 
       moved = omega (arith, a.more);
     }
 
--- a line is taken, which is parsed as the line begun with the bytes up to its end
-turn-line
-    : {z : Sizes} {s chunk held b m out : List ℕ} {f : Fed} {end : ℕ} {held' s' m' out' : List ℕ} {x : Option Step} {used : ℕ}
-    → EndedAsks z s chunk held b m out f end
-    → ((h : List ℕ) → HeldIs held f.have h → x ≡ parse_line (h ++ piece chunk f.from end))
-    → LineTook z s s' f.n x m m' out f.used out' used
+-- A line's last bytes are in the text; the bytes held stand for those before them.
+pub record TextAsks (z : Sizes) (s held : List ℕ) (have : ℕ) (out : List ℕ) (at : ℕ) : Type 0 where
+  pub well : Well z s
+  pub line : length held ≡ held_most
+  pub few : have ≤ held_most
+  pub room : at + line_most z ≤ length out
+
+-- The step was taken that is the line's, and its line of the listing written.
+pub record TextTook (z : Sizes) (s s' : List ℕ) (n : ℕ) (held : List ℕ) (have : ℕ) (text out : List ℕ) (at : ℕ) (out' : List ℕ) (r : ℕ) : Type 0 where
+  pub step : Option Step
+  pub parsed : (h : List ℕ) → HeldIs held have h → NoEnd text → step ≡ parse_line (h ++ text)
+  pub before : List ℕ
+  pub after : List ℕ
+  pub took : LineTook z s s' n step before after out at out' r
+
+pub turn-text : {z : Sizes} {s chunk held out : List ℕ} {f : Fed} → TurnAsks z s chunk held out f → TextAsks z s held f.have out f.used
+turn-text a = record { well = a.asks.well; line = a.asks.line; few = a.asks.few; room = a.room }
+
+-- None of the line is held.
+pub text-whole
+    : {z : Sizes} {s s' : List ℕ} {n : ℕ} {held : List ℕ} {have : ℕ} {text out : List ℕ} {at : ℕ} {out' : List ℕ} {r : ℕ} {b b' m m' : List ℕ}
+    → have ≡ 0
+    → LineTaken z s s' n (parse_line text) b b' m m' out at out' r
+    → TextTook z s s' n held have text out at out' r
+text-whole {held = held} {have = have} {text = text} {m = m} {m' = m'} none t =
+    record {
+      step = parse_line text;
+      parsed = λ h c p.
+          let nothing : h ≡ [] = c.short (omega arith) ∙ ap (λ (k : ℕ). take k held) none in
+          ap (λ (ys : List ℕ). parse_line (ys ++ text)) (sym nothing);
+      before = m;
+      after = m';
+      took = t.took;
+    }
+
+-- The end of a line begun before.
+pub text-begun
+    : {z : Sizes} {s s' : List ℕ} {n : ℕ} {held : List ℕ} {have : ℕ} {text out : List ℕ} {at : ℕ} {out' : List ℕ} {r : ℕ} {held' b b' m m' : List ℕ} {kept : ℕ}
+    → TextAsks z s held have out at
+    → Kept held have text held' kept
+    → LineTaken z s s' n (parse_line (take kept held')) b b' m m' out at out' r
+    → TextTook z s s' n held have text out at out' r
+text-begun {held' = held'} {m = m} {m' = m'} {kept = kept} a k t =
+    record {
+      step = parse_line (take kept held');
+      parsed = λ h c p. held-parse (k.long ∙ a.line) (omega (arith, k.ends, a.line)) (held_more a.line a.few c p k);
+      before = m;
+      after = m';
+      took = t.took;
+    }
+
+-- A line is taken.
+pub turn-line
+    : {z : Sizes} {s chunk held out : List ℕ} {f : Fed} {end : ℕ} (held' : List ℕ) {s' out' : List ℕ} {used : ℕ}
+    → EndedAsks z s chunk held out f end
+    → TextTook z s s' f.n held f.have (piece chunk f.from end) out f.used out' used
     → Turned z chunk s held out f s' held' out' (record { from = end + 1; have = 0; n = f.n + 1; used = used })
 unfolding machine_after print_from
-turn-line {z} {s} {chunk} {held} {b} {m} {out} {f} {end} {held'} {s'} {x = x} a parsed t =
+turn-line {z} {s} {chunk} {held} {out} {f} {end} held' {s'} a w =
+    let x : Option Step = w.step in
+    let t : LineTook z s s' f.n x w.before w.after out f.used _ _ = w.took in
+    let parsed : (h : List ℕ) → HeldIs held f.have h → x ≡ parse_line (h ++ piece chunk f.from end) = λ h c. w.parsed h c a.line.before.none in
     let l : LineEnd chunk f.from end = a.line in
     let p : List ℕ = piece chunk f.from end in
     let q : piece chunk f.from (end + 1) ≡ p ++ 10 ∷ [] =
@@ -124,31 +178,3 @@ turn-line {z} {s} {chunk} {held} {b} {m} {out} {f} {end} {held'} {s'} {x = x} a 
           };
       moved = omega (arith, l.before.low);
     }
-
--- A line that lies whole in the chunk.
-pub turn-whole
-    : {z : Sizes} {s chunk held b m out : List ℕ} {f : Fed} {end : ℕ} {s' b' m' out' : List ℕ} {used : ℕ}
-    → EndedAsks z s chunk held b m out f end
-    → f.have ≡ 0
-    → LineTaken z s s' f.n (parse_line (piece chunk f.from end)) b b' m m' out f.used out' used
-    → Turned z chunk s held out f s' held out' (record { from = end + 1; have = 0; n = f.n + 1; used = used })
-turn-whole {z} {s} {chunk} {held} {b} {m} {out} {f} {end} a none t =
-    turn-line a
-    (λ h c.
-    let nothing : h ≡ [] = c.short (omega arith) ∙ ap (λ (k : ℕ). take k held) none in
-    ap (λ (ys : List ℕ). parse_line (ys ++ piece chunk f.from end)) (sym nothing))
-    t.took
-
--- The end of a line begun before.
-pub turn-begun
-    : {z : Sizes} {s chunk held b m out : List ℕ} {f : Fed} {end kept : ℕ} {held' s' b' m' out' : List ℕ} {used : ℕ}
-    → EndedAsks z s chunk held b m out f end
-    → Kept held f.have (piece chunk f.from end) held' kept
-    → LineTaken z s s' f.n (parse_line (take kept held')) b b' m m' out f.used out' used
-    → Turned z chunk s held out f s' held' out' (record { from = end + 1; have = 0; n = f.n + 1; used = used })
-turn-begun {z} {s} {chunk} {held} {b} {m} {out} {f} {end} {kept} {held'} a k t =
-    turn-line a
-    (λ h c.
-    held-parse (k.long ∙ a.turn.asks.line) (omega (arith, k.ends, a.turn.asks.line))
-    (held_more a.turn.asks.line a.turn.asks.few c a.line.before.none k))
-    t.took

@@ -8,7 +8,7 @@ use Rattle.machine.specs.Listing.{print_from, header, listing_at, steps_sizes, l
 use Rattle.state.specs.Places.{sizes_in}
 use Rattle.state.specs.declared.Sizes.{Sizes}
 use Rattle.holds.specs.Did.{machine_in}
-use Rattle.listing.specs.declared.Fed.{Fed}
+use Rattle.listing.specs.Fed.{Fed}
 use Rattle.listing.specs.Behind.{Behind, behind-none, behind_join}
 use Rattle.listing.specs.Lines.{print_append}
 use Rattle.listing.specs.Pieces.{piece}

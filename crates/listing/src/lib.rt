@@ -1,16 +1,19 @@
 // The listing of an input that comes in chunks.
 #![tactic(auto)]
 
-ghost use Rattle.std.specs.Prelude.{◌≡◌, ◌≤◌, min, length};
-ghost use Rattle.listing.specs.Pieces.{piece, LineEnd};
-ghost use Rattle.listing.specs.Held.{KeepAsks, Kept};
+ghost use Rattle.std.specs.Prelude.{◌≡◌, ◌+◌, ◌≤◌, ◌==◌, length, position};
+ghost use Rattle.listing.specs.Fed.{fed};
+ghost use Rattle.listing.specs.Pieces.{LineEnd};
+ghost use Rattle.listing.specs.Held.{Kept};
 ghost use Rattle.listing.specs.Feed.{FeedAsks, FeedEnds};
-ghost use Rattle.listing.specs.Turn.{EndedAsks, TurnAsks, Turned};
+ghost use Rattle.listing.specs.Turn.{TurnAsks, Turned, TextAsks, TextTook};
 ghost use Rattle.listing.specs.Finish.{FinishAsks, Finished};
 ghost use Rattle.listing.specs.Start.{state_size, Started};
 ghost use Rattle.machine.specs.Listing.{header};
-ghost use Rattle.print.specs.Put.{Put};
+ghost use Rattle.print.specs.Put.{Room, Put};
 
+use line::Machine;
+use print::Out;
 use state::Sizes;
 
 // How many bytes a state of the sizes of `steps` takes.
@@ -19,19 +22,21 @@ pub const STATE_SIZE: usize = 47_888;
 // The room for the line begun: one byte more than the longest step has.
 pub const HELD_SIZE: usize = 4_097;
 
-// The room for the bytes of a step, and for a message.
-pub const STEP_SIZE: usize = 4_128;
-
-pub const MESSAGE_SIZE: usize = 127;
-
-// How far it has got: the place in the chunk, how many bytes of the line begun are held, the number of the next step, and how
-// many bytes of the buffer for the listing are used.
-#[derive(Clone, Copy)]
-pub struct Fed {
-    pub from: usize,
+// A listing under way: the machine, the line begun, of which so many bytes are held, and the number of the next step.
+#[derive(Drop)]
+pub struct Listing<'a> {
+    pub machine: Machine<'a>,
+    // no Vec: it could be out of memory at any line
+    pub held: [u8; HELD_SIZE],
     pub have: usize,
-    pub n: u64,
-    pub used: usize,
+    pub number: u64,
+}
+
+// The place of the first line end.
+fn newline(text: &[u8]) -> Option<usize>
+    ensures { result ≡ position (λ b. b == 10) text.now }
+{
+    text.iter().position(|b| *b == b'\n')
 }
 
 // The place of the first line end from `from` on, or the chunk's end.
@@ -39,153 +44,108 @@ fn line_end(chunk: &[u8], from: usize) -> usize
     requires { from ≤ length chunk.now }
     ensures { LineEnd chunk.now from result }
 {
-    let mut i = from;
-    while i < chunk.len() && chunk[i] != b'\n' {
-        i += 1;
-    }
-    i
-}
-
-// The smaller one.
-fn least(a: usize, b: usize) -> usize
-    ensures { result ≡ min a b }
-{
-    if a < b { a } else { b }
-}
-
-// Keeps `chunk[from..to]` behind the first `have` bytes of `held`, as far as there is room; how many bytes are held then.
-fn keep(held: &mut [u8], have: usize, chunk: &[u8], from: usize, to: usize) -> usize
-    requires { KeepAsks held.old have chunk.now from to }
-    ensures { Kept held.old have (piece chunk.now from to) held.new result }
-{
-    let n = least(to - from, held.len() - have);
-    let mut i = 0;
-    while i < n {
-        held[have + i] = chunk[from + i];
-        i += 1;
-    }
-    have + n
-}
-
-// Takes the line that ends at `end`: in place, where none of it is held. What is free afterwards is as at `feed`.
-fn take_ended(
-    s: &mut [u8],
-    z: Sizes,
-    chunk: &[u8],
-    held: &mut [u8],
-    b: &mut [u8],
-    message: &mut [u8],
-    out: &mut [u8],
-    fed: Fed,
-    end: usize,
-) -> Fed
-    requires { EndedAsks z s.old chunk.now held.old b.old message.old out.old fed end }
-    ensures { Turned z chunk.now s.old held.old out.old fed s.new held.new out.new result }
-{
-    let from = end + 1;
-    let n = fed.n + 1;
-    let begin = fed.from;
-    let have = fed.have;
-    if have == 0 {
-        let used = line::take_line(s, z, fed.n, &chunk[begin..end], b, message, out, fed.used);
-        return Fed {
-            from,
-            have: 0,
-            n,
-            used,
-        };
-    }
-    let kept = keep(held, have, chunk, begin, end);
-    let used = line::take_line(s, z, fed.n, &held[..kept], b, message, out, fed.used);
-    Fed {
-        from,
-        have: 0,
-        n,
-        used,
+    match newline(&chunk[from..]) {
+        Some(i) => from + i,
+        None => chunk.len(),
     }
 }
 
-// Takes the line that begins or goes on at `fed.from`, or holds the rest of the chunk. What is free afterwards is as at `feed`.
-fn turn(
-    s: &mut [u8],
-    z: Sizes,
-    chunk: &[u8],
-    held: &mut [u8],
-    b: &mut [u8],
-    message: &mut [u8],
-    out: &mut [u8],
-    fed: Fed,
-) -> Fed
-    requires { TurnAsks z s.old chunk.now held.old b.old message.old out.old fed }
-    ensures { Turned z chunk.now s.old held.old out.old fed s.new held.new out.new result }
+// Keeps `text` behind the first `have` bytes of `held`, as far as there is room; how many bytes are held then.
+fn keep(held: &mut [u8], have: usize, text: &[u8]) -> usize
+    requires { have ≤ length held.old }
+    ensures { Kept held.old have text.now held.new result }
 {
-    let from = fed.from;
-    let end = line_end(chunk, from);
-    if end < chunk.len() {
-        return take_ended(s, z, chunk, held, b, message, out, fed, end);
-    }
-    let have = keep(held, fed.have, chunk, from, end);
-    Fed {
-        from: end,
-        have,
-        n: fed.n,
-        used: fed.used,
-    }
+    let n = text.len().min(held.len() - have);
+    let end = have + n;
+    held[have..end].copy_from_slice(&text[..n]);
+    end
 }
 
-// Takes lines from `chunk[fed.from..]` until the chunk is used up or `out` has no room for another. A line that the chunk does not
-// end is held for the next one. `b` and `message` are room for work: what stands there then is free, and so are the bytes of `held`
-// behind the line begun.
-pub fn feed(
-    s: &mut [u8],
-    z: Sizes,
-    chunk: &[u8],
-    held: &mut [u8],
-    b: &mut [u8],
-    message: &mut [u8],
-    out: &mut [u8],
-    fed: Fed,
-) -> Fed
-    requires { FeedAsks z s.old chunk.now held.old b.old message.old out.old fed }
-    ensures { FeedEnds z chunk.now s.old held.old out.old fed s.new held.new out.new result }
-{
-    let mut at = fed;
-    while at.from < chunk.len() {
-        if out.len() - at.used < line::most(z) {
-            return at;
+impl Listing<'_> {
+    // Takes the line that ends with `text`: in place, where none of it is held.
+    fn take_text(&mut self, text: &[u8], out: &mut Out)
+        requires { TextAsks self.old.machine.sizes self.old.machine.state.now self.old.held self.old.have out.old.bytes.now out.old.used }
+        ensures took { TextTook self.old.machine.sizes self.old.machine.state.now self.new.machine.state.now self.old.number self.old.held self.old.have text.now out.old.bytes.now out.old.used out.new.bytes.now out.new.used }
+        ensures number { self.new.number ≡ self.old.number }
+        ensures held { length self.new.held ≡ length self.old.held }
+        ensures sizes { self.new.machine.sizes ≡ self.old.machine.sizes }
+        ensures state { self.new.machine.state.ghost_name ≡ self.old.machine.state.ghost_name }
+        ensures out { out.new.bytes.ghost_name ≡ out.old.bytes.ghost_name }
+    {
+        if self.have == 0 {
+            self.machine.take_line(self.number, text, out);
+        } else {
+            let have = keep(&mut self.held, self.have, text);
+            self.machine.take_line(self.number, &self.held[..have], out);
         }
-        at = turn(s, z, chunk, held, b, message, out, at);
     }
-    at
+
+    // Takes the line that begins or goes on at `from`, or holds the rest of the chunk; where to go on.
+    fn turn(&mut self, chunk: &[u8], from: usize, out: &mut Out) -> usize
+        requires { TurnAsks self.old.machine.sizes self.old.machine.state.now chunk.now self.old.held out.old.bytes.now (fed from self.old.have self.old.number out.old.used) }
+        ensures turned { Turned self.old.machine.sizes chunk.now self.old.machine.state.now self.old.held out.old.bytes.now (fed from self.old.have self.old.number out.old.used) self.new.machine.state.now self.new.held out.new.bytes.now (fed result self.new.have self.new.number out.new.used) }
+        ensures held { length self.new.held ≡ length self.old.held }
+        ensures sizes { self.new.machine.sizes ≡ self.old.machine.sizes }
+        ensures state { self.new.machine.state.ghost_name ≡ self.old.machine.state.ghost_name }
+        ensures out { out.new.bytes.ghost_name ≡ out.old.bytes.ghost_name }
+    {
+        let end = line_end(chunk, from);
+        let text = &chunk[from..end];
+        if chunk.len() <= end {
+            self.have = keep(&mut self.held, self.have, text);
+            return end;
+        }
+        self.take_text(text, out);
+        self.have = 0;
+        self.number += 1;
+        end + 1
+    }
+
+    // Takes lines from `chunk[from..]` until the chunk is used up or `out` has no room for another; where to go on. A line that the chunk
+    // does not end is held for the next one.
+    pub fn feed(&mut self, chunk: &[u8], from: usize, out: &mut Out) -> usize
+        requires { FeedAsks self.old.machine.sizes self.old.machine.state.now chunk.now self.old.held out.old.bytes.now (fed from self.old.have self.old.number out.old.used) }
+        ensures ends { FeedEnds self.old.machine.sizes chunk.now self.old.machine.state.now self.old.held out.old.bytes.now (fed from self.old.have self.old.number out.old.used) self.new.machine.state.now self.new.held out.new.bytes.now (fed result self.new.have self.new.number out.new.used) }
+        ensures held { length self.new.held ≡ length self.old.held }
+        ensures sizes { self.new.machine.sizes ≡ self.old.machine.sizes }
+        ensures state { self.new.machine.state.ghost_name ≡ self.old.machine.state.ghost_name }
+        ensures out { out.new.bytes.ghost_name ≡ out.old.bytes.ghost_name }
+    {
+        let mut at = from;
+        while at < chunk.len() {
+            if out.bytes.len() - out.used < line::most(self.machine.sizes) {
+                return at;
+            }
+            at = self.turn(chunk, at, out);
+        }
+        at
+    }
+
+    // Takes the line begun, where there is one: the last, without its line end.
+    pub fn finish(&mut self, out: &mut Out)
+        requires { FinishAsks self.old.machine.sizes self.old.machine.state.now self.old.held out.old.bytes.now (fed 0 self.old.have self.old.number out.old.used) }
+        ensures finished { Finished self.old.machine.sizes self.old.machine.state.now self.old.held out.old.bytes.now (fed 0 self.old.have self.old.number out.old.used) self.new.machine.state.now out.new.bytes.now out.new.used }
+        ensures held { self.new.held ≡ self.old.held }
+        ensures have { self.new.have ≡ self.old.have }
+        ensures number { self.new.number ≡ self.old.number }
+        ensures sizes { self.new.machine.sizes ≡ self.old.machine.sizes }
+        ensures state { self.new.machine.state.ghost_name ≡ self.old.machine.state.ghost_name }
+        ensures out { out.new.bytes.ghost_name ≡ out.old.bytes.ghost_name }
+    {
+        if self.have != 0 {
+            self.machine
+                .take_line(self.number, &self.held[..self.have], out);
+        }
+    }
 }
 
-// Takes the line begun, where there is one: the last, without its line end. Where the listing ends in `out`. `b` and `message` are
-// room for work: what stands there then is free.
-pub fn finish(
-    s: &mut [u8],
-    z: Sizes,
-    held: &[u8],
-    b: &mut [u8],
-    message: &mut [u8],
-    out: &mut [u8],
-    fed: Fed,
-) -> usize
-    requires { FinishAsks z s.old held.now b.old message.old out.old fed }
-    ensures { Finished z s.old held.now out.old fed s.new out.new result }
+// Writes the first line of the listing.
+pub fn begin(out: &mut Out)
+    requires { Room 34 out.old.bytes.now out.old.used }
+    ensures put { Put 34 out.old.bytes.now out.old.used header out.new.bytes.now out.new.used }
+    ensures out { out.new.bytes.ghost_name ≡ out.old.bytes.ghost_name }
 {
-    let have = fed.have;
-    if have == 0 {
-        return fed.used;
-    }
-    line::take_line(s, z, fed.n, &held[..have], b, message, out, fed.used)
-}
-
-// Writes the first line of the listing; where it ends.
-pub fn begin(out: &mut [u8]) -> usize
-    requires { 34 ≤ length out.old }
-    ensures { Put 34 out.old 0 header out.new result }
-{
-    keep(out, 0, b"step;answer;up;queue;asleep;ticks\n", 0, 34)
+    out.text(b"step;answer;up;queue;asleep;ticks\n");
 }
 
 // Makes a fresh state of the sizes of `steps` in the front of `s`.

@@ -1,5 +1,5 @@
--- When a machine is one that a well-formed state holds: 01's paragraph 'A state is well formed exactly if', clause by clause.
--- What that paragraph says of links and stored counts (asleep, queues that run from head to tail) is said of the bytes.
+-- When a machine is one that a well-formed state holds: docs/MACHINE.md, "Well-formed states", clause by clause.
+-- What there is to say of links and stored counts (asleep, queues that run from head to tail) is said of the bytes (docs/STATE.md).
 use Rattle.std.specs.Prelude.{if◌then◌else◌, ◌≡◌, true, false, ◌&&◌, List, [], ◌∷◌, ◌++◌, map, ◌⊎◌, ℕ, ◌+◌, ◌-◌, ◌^◌, ◌≤◌, ◌<◌, eqb, length}
 use Rattle.std.proofs.Math.Option.{Option, none, some}
 use Rattle.clock.specs.Counts.{counts_of}
@@ -87,11 +87,12 @@ unfoldable pub running_in : Option ℕ → List ℕ
 running_in none = []
 running_in (some i) = i ∷ []
 
--- The places of a process (01's demand 3), one after another: running, in the run queue, on a Rendez or waitr, in a lock's queue.
+-- The places of a process (docs/MACHINE.md, "Places"), one after another: running, in the run queue, on a Rendez or waitr, in a
+-- lock's queue.
 unfoldable pub places : Machine → List ℕ
 places m = running_in m.up ++ m.run ++ asleep_on m
 
--- Each living process is in one place of demand 3, and nobody else in any.
+-- Each living process is in one of these places, and nobody else in any.
 abbrev pub InOnePlace : Machine → Type 0
 InOnePlace m = (i : ℕ) → count i (places m) ≡ (if living (process m i) then 1 else 0)
 
@@ -128,11 +129,11 @@ IsTsleep (in_tsleep r c) = Unit {0}
 IsTsleep (in_qlock q) = ⊥
 IsTsleep in_wait = ⊥
 
--- The whole paragraph.
+-- All clauses together.
 pub record Good (m : Machine) : Type 0 where
   -- its sizes and fields are in range
   pub in_range : InRange m
-  -- each living process is in one place of demand 3
+  -- each living process is in one place
   pub in_one_place : InOnePlace m
   pub calls_fit : CallsFit m
   -- queued timers stand by deadline, each once

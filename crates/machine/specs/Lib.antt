@@ -1,4 +1,4 @@
--- The definitions, in the order in which to read them.
+-- The definitions, in the order in which to read them. docs/MACHINE.md says in words what they say.
 pub mod Basics
 pub mod Machine
 pub mod Update

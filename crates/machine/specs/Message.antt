@@ -30,7 +30,8 @@ unfoldable pub cut : List ℕ → List ℕ
 cut bytes = if leb (length bytes) 127 then bytes else take (move_back bytes 127) bytes
 
 -- exits(2): an empty string is normal termination; otherwise the parent's message holds the program's name, its pid and the
--- string. 01: empty status gives an empty message; else name up to its first zero byte, space, pid, colon, space, status.
+-- string. docs/MACHINE.md, "Exit messages": of an empty status an empty one; else the name up to its first zero byte, a space, the
+-- pid, a colon, a space and the status.
 unfoldable pub message : List ℕ → ℕ → List ℕ → List ℕ
 message name pid status = if is_empty status then [] else cut (up_to_zero name ++ ascii " " ++ decimal pid ++ ascii ": " ++ status)
 

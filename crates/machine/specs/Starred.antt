@@ -1,4 +1,4 @@
--- The starred examples of 01: one table, and one theorem that each of its rows holds.
+-- docs/MACHINE.md, "Starred examples": one table, and one theorem that each of its rows holds.
 use Rattle.std.specs.Prelude.{◌≡◌, refl, false, List, [], ◌∷◌, ◌++◌, ℕ, ◌-◌, ◌^◌, replicate}
 use Rattle.clock.specs.Counts.{counts_of}
 use Rattle.machine.specs.Basics.{ascii}

@@ -47,7 +47,7 @@ pub record Kind : Type 0 where
   pub word : String
   pub form : Form
 
--- The nineteen kinds, in 01's order.
+-- The nineteen kinds, in the order of docs/MACHINE.md, "The nineteen steps".
 unfoldable pub kinds : List Kind
 kinds =
     record { number = 1; word = "start"; form = takes_numbers 1 start }

@@ -1,4 +1,4 @@
--- Steps not done: 01's table, row by row, and the order of tests.
+-- Steps not done: docs/MACHINE.md, "Refusals", row by row, and the order of tests.
 use Rattle.std.specs.Prelude.{if◌then◌else◌, Bool, true, false, not, ◌&&◌, ◌||◌, List, [], ◌∷◌, ℕ, zero, suc, ◌-◌, ◌^◌, eqb, leb, ltb, length}
 use Rattle.std.proofs.Math.Option.{Option, none, some}
 use Prim.Native.String.{String}

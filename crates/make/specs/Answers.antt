@@ -1,19 +1,14 @@
 -- What `size` and `make` ensure, and what the code shows at each way out.
-use Rattle.std.specs.Prelude.{◌≡◌, refl, Bool, true, false, not, ◌&&◌, List, ℕ, ◌≤◌, ◌<◌, leb, length}
+use Rattle.std.specs.Prelude.{◌≡◌, refl, Some, Bool, true, false, ◌&&◌, List, ℕ, ◌≤◌, ◌<◌, leb, length}
 use Rattle.std.proofs.Math.Path.{sym, ap}
 use Rattle.std.proofs.Common.{◌∙◌, arith, le-ltb, lt-ltb, leb-true}
-use Rattle.std.proofs.lemmas.Bool.{false≢true, not-true, not-false}
+use Rattle.std.proofs.lemmas.Bool.{false≢true}
 use Rattle.machine.specs.Machine as machine
 use Rattle.machine.specs.Good.{SizesInRange}
 use Rattle.state.specs.Places.{sizes_in, total_in}
 use Rattle.state.specs.declared.Sizes.{Sizes}
 use Rattle.make.specs.Fresh.{between, counts_fit, sizes_fit, sizes_for, total_for, size_answer, fresh_bytes, make_answer, make_bytes}
-use Rattle.make.specs.Code.{Within, CountsFit, MakeAsks}
-
--- the code's sizes are these
-pub record SizesAre (p r q k c hz : ℕ) (z : Sizes) : Type 0 where
-  pub same : sizes_in z ≡ sizes_for p r q k c hz
-  pub ranged : SizesInRange (sizes_in z)
+use Rattle.make.specs.Code.{SizesFor}
 
 pub record Sized (p r q k c n : ℕ) : Type 0 where
   pub answer : n ≡ size_answer p r q k c
@@ -64,57 +59,44 @@ sizes_fit_lem p r q k c hz e =
     let h : CountsIn p r q k c = counts_in p r q k c x.0 in
     record { processes = h.processes; rendez = h.rendez; locks = h.locks; timers = h.timers; cells = h.cells; hz = between-true 1 4294967295 hz x.1 }
 
--- what the tests show of the sizes
-pub sizes_any : {p r q k c : ℕ} {t : Bool} → CountsFit p r q k c t → not t ≡ false → SizesInRange (sizes_for p r q k c 1)
-sizes_any {p} {r} {q} {k} {c} {t} f e =
-    let h : CountsIn p r q k c = counts_in p r q k c (sym f.answer ∙ not-false t e) in
-    record { processes = h.processes; rendez = h.rendez; locks = h.locks; timers = h.timers; cells = h.cells; hz = omega arith }
-
-pub sizes-all : {p r q k c hz : ℕ} {t u : Bool} → CountsFit p r q k c t → not t ≡ false → Within 1 4294967295 hz u → not u ≡ false → SizesInRange (sizes_for p r q k c hz)
-sizes-all {p} {r} {q} {k} {c} {hz} {t} {u} f e w d =
-    let h : CountsIn p r q k c = counts_in p r q k c (sym f.answer ∙ not-false t e) in
-    record { processes = h.processes; rendez = h.rendez; locks = h.locks; timers = h.timers; cells = h.cells; hz = between-true 1 4294967295 hz (sym w.answer ∙ not-false u d) }
-
 -- each way out of `size`
-pub size-no : {p r q k c : ℕ} {t : Bool} → CountsFit p r q k c t → not t ≡ true → Sized p r q k c 2
-unfolding size_answer
-size-no {t = t} f e = record { answer = rw (sym f.answer ∙ not-true t e) }
+fits-any : (p r q k c : ℕ) → sizes_fit p r q k c 1 ≡ counts_fit p r q k c
+unfolding sizes_fit
+fits-any p r q k c = go (counts_fit p r q k c)
+  where
+    go : (b : Bool) → (b && true) ≡ b
+    go true = refl
+    go false = refl
 
-pub size-yes : {p r q k c n : ℕ} {t : Bool} {z : Sizes} → CountsFit p r q k c t → not t ≡ false → SizesAre p r q k c 1 z → n ≡ total_in z → Sized p r q k c n
+pub size-no : {p r q k c : ℕ} → sizes_fit p r q k c 1 ≡ false → Sized p r q k c 2
 unfolding size_answer
-size-yes {t = t} f e y d = record { answer = rw (sym f.answer ∙ not-false t e) (d ∙ ap total_for y.same) }
+size-no {p} {r} {q} {k} {c} e = record { answer = rw (sym (fits-any p r q k c) ∙ e) }
+
+pub size-yes : (z : Sizes) {p r q k c n : ℕ} → SizesFor p r q k c 1 (Some z) → n ≡ total_in z → Sized p r q k c n
+unfolding size_answer
+size-yes z {p} {r} {q} {k} {c} f d = record { answer = rw (sym (fits-any p r q k c) ∙ f.1) (d ∙ ap total_for f.0) }
 
 -- each way out of `make`
-pub make-counts : {p r q k c hz : ℕ} {s : List ℕ} {t : Bool} → CountsFit p r q k c t → not t ≡ true → MakeAnswers p r q k c hz s s 2
-unfolding make_answer make_bytes sizes_fit
-make-counts {t = t} f e = let g = sym f.answer ∙ not-true t e in record { answer = rw g; bytes = rw g }
+pub make-unfit : {p r q k c hz : ℕ} {s : List ℕ} → sizes_fit p r q k c hz ≡ false → MakeAnswers p r q k c hz s s 2
+unfolding make_answer make_bytes
+make-unfit f = record { answer = rw f; bytes = rw f }
 
-pub make-hz : {p r q k c hz : ℕ} {s : List ℕ} {t u : Bool} → CountsFit p r q k c t → not t ≡ false → Within 1 4294967295 hz u → not u ≡ true → MakeAnswers p r q k c hz s s 2
-unfolding make_answer make_bytes sizes_fit
-make-hz {t = t} {u = u} f e w d =
-    let g = sym f.answer ∙ not-false t e in
-    let h = sym w.answer ∙ not-true u d in
-    record { answer = rw (g, h); bytes = rw (g, h) }
-
-module _ {p r q k c hz : ℕ} {t u : Bool} {z : Sizes} {n : ℕ} (f : CountsFit p r q k c t) (e : not t ≡ false) (w : Within 1 4294967295 hz u) (d : not u ≡ false) (y : SizesAre p r q k c hz z) (x : n ≡ total_in z) where
+module _ (z : Sizes) {p r q k c hz : ℕ} {n : ℕ} (f : SizesFor p r q k c hz (Some z)) (x : n ≡ total_in z) where
   total-is : n ≡ total_for (sizes_for p r q k c hz)
-  total-is = x ∙ ap total_for y.same
+  total-is = x ∙ ap total_for f.0
 
   pub make-short : {s : List ℕ} → length s < n → MakeAnswers p r q k c hz s s 1
-  unfolding make_answer make_bytes sizes_fit
+  unfolding make_answer make_bytes
   make-short {s} l =
-      let g = sym f.answer ∙ not-false t e in
-      let h = sym w.answer ∙ not-false u d in
       let m = lt-ltb (length s) (total_for (sizes_for p r q k c hz)) (omega (arith, total-is)) in
-      record { answer = rw (g, h, m); bytes = rw (g, h, m) }
-
-  pub make-asks : (s : List ℕ) → n ≤ length s → MakeAsks z s
-  make-asks s l = record { sizes = y.ranged; long = omega (arith, x) }
+      record { answer = rw (f.1, m); bytes = rw (f.1, m) }
 
   pub make-done : {s s' : List ℕ} → n ≤ length s → s' ≡ fresh_bytes (sizes_in z) s → MakeAnswers p r q k c hz s s' 0
-  unfolding make_answer make_bytes sizes_fit
+  unfolding make_answer make_bytes
   make-done {s} l b =
-      let g = sym f.answer ∙ not-false t e in
-      let h = sym w.answer ∙ not-false u d in
       let m = le-ltb (length s) (total_for (sizes_for p r q k c hz)) (omega (arith, total-is)) in
-      record { answer = rw (g, h, m); bytes = rw (g, h, m) (b ∙ ap (λ (v : machine.Sizes). fresh_bytes v s) y.same) }
+      record { answer = rw (f.1, m); bytes = rw (f.1, m) (b ∙ ap (λ (v : machine.Sizes). fresh_bytes v s) f.0) }
+
+-- the sizes that were found fit a state
+pub sizes-ranged : (p r q k c hz : ℕ) (z : Sizes) → SizesFor p r q k c hz (Some z) → SizesInRange (sizes_in z)
+sizes-ranged p r q k c hz z f = rw f.0 (sizes_fit_lem p r q k c hz f.1)

@@ -1,73 +1,149 @@
 // Numbers of 1, 2, 4 and 8 bytes in a lent slice of bytes, little end first.
-// A number is loaded and stored as two halves, the low half first.
 #![tactic(auto)]
 
-ghost use Rattle.std.specs.Prelude.{◌≡◌, ◌+◌, ◌≤◌, length};
+ghost use Rattle.std.specs.Prelude.{◌≡◌, ◌+◌, ◌≤◌, ℕ, length};
 ghost use Rattle.memory.specs.Le.{le, put};
+ghost use Rattle.memory.specs.Link.{link, IsLink};
 
-// The 8-bit number at `at`.
-pub fn load8(s: &[u8], at: usize) -> u8
-    requires { at + 1 ≤ length s.now }
-    ensures { result ≡ le 1 s.now at }
-{
-    s[at]
+// What stands in `width` bytes of a lent slice, as the number `number`.
+pub trait Number: Copy {
+    // How many bytes it takes.
+    ghost width: { ℕ };
+
+    // The number that stands for it.
+    ghost number: { Self → ℕ };
+
+    // Whether its number fits the bytes. What is loaded fits.
+    ghost fits: { Self → Type 0 };
+
+    // What stands at `at`.
+    fn load(s: &[u8], at: usize) -> Self
+        requires { at + width ≤ length s.now }
+        ensures value { number result ≡ le width s.now at }
+        ensures fits { fits result };
+
+    // Puts it at `at`.
+    fn store(self, s: &mut [u8], at: usize)
+        requires inside { at + width ≤ length s.old }
+        requires fits { fits self }
+        ensures { s.new ≡ put width s.old at (number self) };
+
+    // The number that stands for it.
+    fn value(self) -> u64
+        ensures { result ≡ number self };
 }
 
-// The 16-bit number at `at`.
-pub fn load16(s: &[u8], at: usize) -> u16
-    requires { at + 2 ≤ length s.now }
-    ensures { result ≡ le 2 s.now at }
-{
-    load8(s, at) as u16 + 256 * (load8(s, at + 1) as u16)
+impl Number for u8 {
+    ghost width = { 1 };
+
+    ghost number = { λ n. n };
+
+    ghost fits = { λ n. Unit {0} };
+
+    fn load(s: &[u8], at: usize) -> u8 {
+        s[at]
+    }
+
+    fn store(self, s: &mut [u8], at: usize) {
+        s[at] = self;
+    }
+
+    fn value(self) -> u64 {
+        self as u64
+    }
 }
 
-// The 32-bit number at `at`.
-pub fn load32(s: &[u8], at: usize) -> u32
-    requires { at + 4 ≤ length s.now }
-    ensures { result ≡ le 4 s.now at }
-{
-    load16(s, at) as u32 + 65_536 * (load16(s, at + 2) as u32)
+// The low byte first.
+impl Number for u16 {
+    ghost width = { 2 };
+
+    ghost number = { λ n. n };
+
+    ghost fits = { λ n. Unit {0} };
+
+    fn load(s: &[u8], at: usize) -> u16 {
+        u8::load(s, at) as u16 + 256 * (u8::load(s, at + 1) as u16)
+    }
+
+    fn store(self, s: &mut [u8], at: usize) {
+        ((self % 256) as u8).store(s, at);
+        ((self / 256) as u8).store(s, at + 1);
+    }
+
+    fn value(self) -> u64 {
+        self as u64
+    }
 }
 
-// The 64-bit number at `at`.
-pub fn load64(s: &[u8], at: usize) -> u64
-    requires { at + 8 ≤ length s.now }
-    ensures { result ≡ le 8 s.now at }
-{
-    load32(s, at) as u64 + 4_294_967_296 * (load32(s, at + 4) as u64)
+// The low half first.
+impl Number for u32 {
+    ghost width = { 4 };
+
+    ghost number = { λ n. n };
+
+    ghost fits = { λ n. Unit {0} };
+
+    fn load(s: &[u8], at: usize) -> u32 {
+        u16::load(s, at) as u32 + 65_536 * (u16::load(s, at + 2) as u32)
+    }
+
+    fn store(self, s: &mut [u8], at: usize) {
+        ((self % 65_536) as u16).store(s, at);
+        ((self / 65_536) as u16).store(s, at + 2);
+    }
+
+    fn value(self) -> u64 {
+        self as u64
+    }
 }
 
-// Puts the 8-bit number `v` at `at`.
-pub fn store8(s: &mut [u8], at: usize, v: u8)
-    requires { at + 1 ≤ length s.old }
-    ensures { s.new ≡ put 1 s.old at v }
-{
-    s[at] = v;
+// The low half first.
+impl Number for u64 {
+    ghost width = { 8 };
+
+    ghost number = { λ n. n };
+
+    ghost fits = { λ n. Unit {0} };
+
+    fn load(s: &[u8], at: usize) -> u64 {
+        u32::load(s, at) as u64 + 4_294_967_296 * (u32::load(s, at + 4) as u64)
+    }
+
+    fn store(self, s: &mut [u8], at: usize) {
+        ((self % 4_294_967_296) as u32).store(s, at);
+        ((self / 4_294_967_296) as u32).store(s, at + 4);
+    }
+
+    fn value(self) -> u64 {
+        self
+    }
 }
 
-// Puts the 16-bit number `v` at `at`.
-pub fn store16(s: &mut [u8], at: usize, v: u16)
-    requires { at + 2 ≤ length s.old }
-    ensures { s.new ≡ put 2 s.old at v }
-{
-    store8(s, at, (v % 256) as u8);
-    store8(s, at + 1, (v / 256) as u8);
-}
+// A link to a record: 0 is none, and i + 1 leads to record i, which is below 65,535.
+impl Number for Option<u16> {
+    ghost width = { 2 };
 
-// Puts the 32-bit number `v` at `at`.
-pub fn store32(s: &mut [u8], at: usize, v: u32)
-    requires { at + 4 ≤ length s.old }
-    ensures { s.new ≡ put 4 s.old at v }
-{
-    store16(s, at, (v % 65_536) as u16);
-    store16(s, at + 2, (v / 65_536) as u16);
-}
+    ghost number = { link };
 
-// Puts the 64-bit number `v` at `at`.
-pub fn store64(s: &mut [u8], at: usize, v: u64)
-    requires { at + 8 ≤ length s.old }
-    ensures { s.new ≡ put 8 s.old at v }
-{
-    store32(s, at, (v % 4_294_967_296) as u32);
-    store32(s, at + 4, (v / 4_294_967_296) as u32);
+    ghost fits = { IsLink };
+
+    fn load(s: &[u8], at: usize) -> Option<u16> {
+        let n = u16::load(s, at);
+        if n == 0 { None } else { Some(n - 1) }
+    }
+
+    fn store(self, s: &mut [u8], at: usize) {
+        let n = match self {
+            None => 0,
+            Some(i) => i + 1,
+        };
+        n.store(s, at);
+    }
+
+    fn value(self) -> u64 {
+        match self {
+            None => 0,
+            Some(i) => i as u64 + 1,
+        }
+    }
 }

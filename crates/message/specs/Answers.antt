@@ -1,9 +1,9 @@
 -- What the message writer asks and ensures, and what the code shows at each way out.
-use Rattle.std.specs.Prelude.{◌≡◌, refl, List, [], ◌∷◌, ◌++◌, ℕ, ◌-◌, ◌≤◌, length, take, drop}
-use Rattle.std.proofs.Common.{sym, ap, ◌∙◌, arith}
+use Rattle.std.specs.Prelude.{◌≡◌, refl, List, [], ◌∷◌, ◌++◌, ℕ, ◌≤◌, length, take, drop}
+use Rattle.std.proofs.Common.{sym, ap, ◌∙◌, arith, length-drop}
 use Rattle.machine.specs.Message.{message, cut, up_to_zero, decimal}
 use Rattle.message.specs.Text.{text, text-is, NameEnds, ends-length}
-use Rattle.message.specs.Digits.{Written, written_part, written-length}
+use Rattle.message.specs.Digits.{Written}
 use Rattle.message.specs.Cut.{CutAsks, CutLength, Copied}
 
 -- A cell is 127 bytes long, a name at most 28.
@@ -38,18 +38,18 @@ written_none {cell} {name} {pid} {status} e =
     record { answer = rw m; bytes = rw m; within = omega arith }
 
 -- the parts that are handed on are short
-pub parts_fit : {cell name : List ℕ} {pid : ℕ} {d : List ℕ} {from end : ℕ} → MessageAsks cell name → Written pid d from → NameEnds name end
-    → CutAsks (take end name) (take (20 - from) (drop from d))
-parts_fit {cell} {name} {pid} {d} {from} {end} a w e =
-    record { name_fits = omega (arith, ends-length e, e.within, a.name_fits); digits_fit = written-length w }
+pub parts_fit : {cell name ds : List ℕ} {pid : ℕ} {d : List ℕ} {from end : ℕ} → MessageAsks cell name → Written pid d from → ds ≡ drop from d → NameEnds name end
+    → CutAsks (take end name) ds
+parts_fit {cell} {name} {ds} {pid} {d} {from} {end} a w s e =
+    record { name_fits = omega (arith, ends-length e, e.within, a.name_fits); digits_fit = omega (arith, ap length s, length-drop from d, w.long) }
 
 -- any other status
-pub written-some : {cell cell' name : List ℕ} {pid : ℕ} {status d : List ℕ} {from end n : ℕ} → (length status ≡ 0 → ⊥)
-    → Written pid d from → NameEnds name end → CutLength (take end name) (take (20 - from) (drop from d)) status n
-    → Copied cell (take end name) (take (20 - from) (drop from d)) status n cell' → MessageWritten cell cell' name pid status n
-written-some {cell} {cell'} {name} {pid} {status} {d} {from} {end} {n} ne w e c k =
-    let bytes : List ℕ = text (take end name) (take (20 - from) (drop from d)) status in
-    let t : bytes ≡ text (up_to_zero name) (decimal pid) status = rw (e.front, written_part w) in
+pub written-some : {cell cell' name ds : List ℕ} {pid : ℕ} {status d : List ℕ} {from end n : ℕ} → (length status ≡ 0 → ⊥)
+    → Written pid d from → ds ≡ drop from d → NameEnds name end → CutLength (take end name) ds status n
+    → Copied cell (take end name) ds status n cell' → MessageWritten cell cell' name pid status n
+written-some {cell} {cell'} {name} {ds} {pid} {status} {d} {from} {end} {n} ne w s e c k =
+    let bytes : List ℕ = text (take end name) ds status in
+    let t : bytes ≡ text (up_to_zero name) (decimal pid) status = rw (e.front, s ∙ w.digits) in
     let m : message name pid status ≡ cut bytes = message-some name pid status ne ∙ ap cut (sym t) in
     record {
       answer = c.size ∙ ap length (sym m);

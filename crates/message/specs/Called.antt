@@ -9,7 +9,7 @@ use Rattle.message.specs.Answers.{MessageAsks, MessageWritten}
 unfoldable pub message_fits : (cell name : List ℕ) → Bool
 message_fits cell name = leb 127 (length cell) && leb (length name) 28
 
--- The message's length. Where the lengths do not fit, 01's number is 2, which is a length too: 256 + 2 is none.
+-- The message's length. Where the lengths do not fit, the refusal's number is 2, which is a length too: 256 + 2 is none.
 unfoldable pub message_answer : (cell name : List ℕ) → ℕ → List ℕ → ℕ
 message_answer cell name pid status = if message_fits cell name then length (message name pid status) else 258
 

@@ -1,6 +1,6 @@
 -- The digits of a number, written from the last to the first.
-use Rattle.std.specs.Prelude.{◌≡◌, refl, Bool, true, false, List, [], ◌∷◌, ◌++◌, ℕ, zero, suc, ◌+◌, ◌-◌, ◌*◌, ◌/◌, ◌%◌, ◌≤◌, ◌<◌, ltb, length, take, drop, set}
-use Rattle.std.proofs.Common.{sym, ap, ◌∙◌, append_assoc, append-nil, arith, lt-ltb, le-ltb, ltb-false, length-set, length-take, length-drop, drop_of_length-le, drop-cons, drop-set-lt, get_or-set_same, take_all}
+use Rattle.std.specs.Prelude.{◌≡◌, refl, Bool, true, false, List, [], ◌∷◌, ◌++◌, ℕ, zero, suc, ◌+◌, ◌-◌, ◌*◌, ◌/◌, ◌%◌, ◌≤◌, ◌<◌, ltb, length, drop, set}
+use Rattle.std.proofs.Common.{sym, ap, ◌∙◌, append_assoc, append-nil, arith, lt-ltb, le-ltb, ltb-false, length-set, drop_of_length-le, drop-cons, drop-set-lt, get_or-set_same}
 use Rattle.machine.specs.Message.{digits, decimal}
 
 -- more fuel than the number needs changes nothing
@@ -102,10 +102,3 @@ digits-end {pid} {s} {s'} {at} {n} {v} w h d e =
           rw (e, put-digit s at v w.room (omega (arith, w.within, w.long)), q)
           (ap (λ (l : List ℕ). l ++ drop at s) (sym (decimal-small n h)) ∙ w.left);
     }
-
--- the digits, as the part of the twenty bytes from r
-pub written_part : {pid : ℕ} {s : List ℕ} {r : ℕ} → Written pid s r → take (20 - r) (drop r s) ≡ decimal pid
-written_part {pid} {s} {r} w = take_all (20 - r) (drop r s) (omega (arith, length-drop r s, w.long)) ∙ w.digits
-
-pub written-length : {pid : ℕ} {s : List ℕ} {r : ℕ} → Written pid s r → length (take (20 - r) (drop r s)) ≤ 20
-written-length {pid} {s} {r} w = omega (arith, length-take (20 - r) (drop r s))

@@ -1,6 +1,7 @@
 -- The whole text of a message, byte by byte, and the name up to its first zero byte.
-use Rattle.std.specs.Prelude.{◌≡◌, refl, List, [], ◌∷◌, ◌++◌, ℕ, suc, ◌+◌, ◌-◌, ◌≤◌, ◌<◌, length, get_or, take, drop}
-use Rattle.std.proofs.Common.{sym, ap, ◌∙◌, append_assoc, append-nil, add-one, arith, eq-eqb, ne_eqb, length-append, drop_of_length-le, get_or-append-add, take-suc, drop-cons, length-take-le}
+use Rattle.std.specs.Prelude.{if◌then◌else◌, ◌≡◌, refl, Bool, true, false, not, Option, None, Some, unwrap_or, List, [], ◌∷◌, ◌++◌, ℕ, suc, ◌+◌, ◌-◌, ◌≤◌, ◌<◌, ltb, eqb, length, get_or, take, position}
+use Rattle.std.specs.List.{position_or_len}
+use Rattle.std.proofs.Common.{ltb-false, sym, ap, ◌∙◌, append_assoc, arith, length-append, get_or-append-add, length-take-le}
 use Rattle.std.proofs.Math.ListN.{get_or-append, get_or-eq_default}
 use Rattle.machine.specs.Basics.{ascii}
 use Rattle.machine.specs.Message.{up_to_zero, decimal}
@@ -94,43 +95,34 @@ pub record NameEnds (name : List ℕ) (r : ℕ) : Type 0 where
 pub ends-length : {name : List ℕ} {r : ℕ} → NameEnds name r → r ≡ length (take r name)
 ends-length {name} {r} e = sym (length-take-le r name e.within)
 
--- no byte so far is zero
-pub record Naming (name : List ℕ) (i : ℕ) : Type 0 where
-  pub within : i ≤ length name
-  pub front : take i name ++ up_to_zero (drop i name) ≡ up_to_zero name
-
-pub name-start : {name : List ℕ} → Naming name 0
-name-start {name} = record { within = omega arith; front = refl }
-
-up-zero : (b : ℕ) (bs : List ℕ) → b ≡ 0 → up_to_zero (b ∷ bs) ≡ []
+-- it is the first place at which the test for zero passes
+first-zero : (name : List ℕ) → take (position_or_len (λ b. eqb b 0) name) name ≡ up_to_zero name
 unfolding up_to_zero
-up-zero b bs e = rw (eq-eqb b 0 e)
+first-zero [] = refl
+first-zero (b ∷ bs) = go (eqb b 0) (position_or_len (λ x. eqb x 0) bs) (first-zero bs)
+  where
+    go : (t : Bool) (n : ℕ) → take n bs ≡ up_to_zero bs → take (if not t then 1 + n else 0) (b ∷ bs) ≡ (if t then [] else b ∷ up_to_zero bs)
+    go true n h = refl
+    go false n h = let e : 1 + n ≡ suc n = omega arith in rw e (ap (λ (l : List ℕ). b ∷ l) h)
 
-up_more : (b : ℕ) (bs : List ℕ) → (b ≡ 0 → ⊥) → up_to_zero (b ∷ bs) ≡ b ∷ up_to_zero bs
-unfolding up_to_zero
-up_more b bs ne = rw (ne_eqb b 0 ne)
+place-within : (name : List ℕ) → position_or_len (λ b. eqb b 0) name ≤ length name
+place-within [] = omega arith
+place-within (b ∷ bs) = go (eqb b 0) (position_or_len (λ x. eqb x 0) bs) (place-within bs)
+  where
+    go : (t : Bool) (n : ℕ) → n ≤ length bs → (if not t then 1 + n else 0) ≤ suc (length bs)
+    go true n h = omega arith
+    go false n h = omega (arith, h)
 
-up_nil : up_to_zero [] ≡ []
-unfolding up_to_zero
-up_nil = refl
+place-or : (k n : ℕ) → k ≤ n → unwrap_or (if ltb k n then Some k else None) n ≡ k
+place-or k n h = go (ltb k n) refl
+  where
+    go : (t : Bool) → ltb k n ≡ t → unwrap_or (if t then Some k else None) n ≡ k
+    go true e = refl
+    go false e = omega (arith, ltb-false k n e)
 
-pub name-more : {name : List ℕ} {i : ℕ} → Naming name i → i < length name → (get_or name i 0 ≡ 0 → ⊥) → Naming name (i + 1)
-name-more {name} {i} w h ne =
-    let b : ℕ = get_or name i 0 in
-    let e : up_to_zero (drop i name) ≡ b ∷ up_to_zero (drop (suc i) name) = rw (drop-cons name i 0 h) (up_more b (drop (suc i) name) ne) in
-    record {
-      within = omega arith;
-      front =
-          rw (add-one i, take-suc name i 0 h)
-          (append_assoc (take i name) (b ∷ []) (up_to_zero (drop (suc i) name)) ∙ ap (λ (l : List ℕ). take i name ++ l) (sym e) ∙ w.front);
-    }
-
-pub name-zero : {name : List ℕ} {i : ℕ} → Naming name i → i < length name → get_or name i 0 ≡ 0 → NameEnds name i
-name-zero {name} {i} w h z =
-    let e : up_to_zero (drop i name) ≡ [] = rw (drop-cons name i 0 h) (up-zero (get_or name i 0) (drop (suc i) name) z) in
-    record { within = omega arith; front = sym (append-nil (take i name)) ∙ ap (λ (l : List ℕ). take i name ++ l) (sym e) ∙ w.front }
-
-pub name-end : {name : List ℕ} {i : ℕ} → Naming name i → length name ≤ i → NameEnds name i
-name-end {name} {i} w h =
-    let e : up_to_zero (drop i name) ≡ [] = rw (drop_of_length-le name {i = i} h) up_nil in
-    record { within = w.within; front = sym (append-nil (take i name)) ∙ ap (λ (l : List ℕ). take i name ++ l) (sym e) ∙ w.front }
+-- what the code shows
+pub name-ends : {name : List ℕ} {o : Option ℕ} {r : ℕ} → o ≡ position (λ b. eqb b 0) name → r ≡ unwrap_or o (length name) → NameEnds name r
+name-ends {name} {o} {r} e d =
+    let k : ℕ = position_or_len (λ b. eqb b 0) name in
+    let q : r ≡ k = d ∙ ap (λ (x : Option ℕ). unwrap_or x (length name)) e ∙ place-or k (length name) (place-within name) in
+    record { within = rw q (place-within name); front = rw q (first-zero name) }

@@ -2,7 +2,7 @@
 // a space and the status; over 127 bytes cut at 127, moving back over bytes 10xxxxxx.
 #![tactic(auto)]
 
-ghost use Rattle.std.specs.Prelude.{◌≡◌, ◌+◌, ◌%◌, length};
+ghost use Rattle.std.specs.Prelude.{◌≡◌, ◌+◌, ◌%◌, ◌≤◌, length, drop};
 ghost use Rattle.message.specs.Text.{TextAt, NameEnds};
 ghost use Rattle.message.specs.Digits.{Written};
 ghost use Rattle.message.specs.Cut.{MovedBack, CutAsks, CutLength, CopyAsks, Copied};
@@ -13,14 +13,8 @@ ghost use Rattle.message.specs.Called.{MessageAnswers};
 fn name_len(name: &[u8]) -> usize
     ensures { NameEnds name.now result }
 {
-    let mut i = 0;
-    while i < name.len() {
-        if name[i] == 0 {
-            return i;
-        }
-        i += 1;
-    }
-    i
+    let zero = name.iter().position(|b| *b == 0);
+    zero.unwrap_or(name.len())
 }
 
 // The last digit of `n`.
@@ -30,94 +24,120 @@ fn digit(n: u64) -> u8
     48 + (n % 10) as u8
 }
 
-// Writes the digits of `pid` at the end of `d`; where they begin.
-fn put_digits(d: &mut [u8; 20], pid: u64) -> usize
-    requires { length d.old ≡ 20 }
-    ensures { Written pid d.new result }
-{
-    let mut at: usize = 20;
-    let mut n = pid;
-    while 10 <= n {
-        at -= 1;
-        d[at] = digit(n);
-        n /= 10;
-    }
-    at -= 1;
-    d[at] = digit(n);
-    at
+// The digits of a number of 64 bits: those of `bytes` from `from` on.
+#[derive(Clone, Copy)]
+pub struct Digits {
+    bytes: [u8; 20],
+    from: usize,
 }
 
-// Byte `k` of the whole text, 0 past its end.
-fn text_at(name: &[u8], digits: &[u8], status: &[u8], k: usize) -> u8
-    ensures { TextAt name.now digits.now status.now k result }
-{
-    if k < name.len() {
-        return name[k];
+impl Digits {
+    // The digits of `n`.
+    pub fn of(n: u64) -> Digits
+        ensures { Written n result.bytes result.from }
+    {
+        let mut bytes = [0u8; 20];
+        let mut from: usize = 20;
+        let mut left = n;
+        while 10 <= left {
+            from -= 1;
+            bytes[from] = digit(left);
+            left /= 10;
+        }
+        from -= 1;
+        bytes[from] = digit(left);
+        Digits { bytes, from }
     }
-    let a = k - name.len();
-    if a == 0 {
-        return 32;
+
+    // They as bytes.
+    pub fn as_bytes(&self) -> &[u8]
+        requires { self.now.from ≤ length self.now.bytes }
+        ensures { result.now ≡ drop self.now.from self.now.bytes }
+    {
+        &self.bytes[self.from..]
     }
-    let b = a - 1;
-    if b < digits.len() {
-        return digits[b];
-    }
-    let e = b - digits.len();
-    if e == 0 {
-        return 58;
-    }
-    if e == 1 {
-        return 32;
-    }
-    let f = e - 2;
-    if f < status.len() {
-        return status[f];
-    }
-    0
 }
 
-// Where the text is cut at 127 bytes or before: back while the first dropped byte is 10xxxxxx.
-fn move_back(name: &[u8], digits: &[u8], status: &[u8]) -> usize
-    ensures { MovedBack name.now digits.now status.now result }
-{
-    let mut n: usize = 127;
-    while 0 < n {
-        let b = text_at(name, digits, status, n);
-        if b < 128 {
+// The whole text of a message: the name, a space, the digits, a colon, a space and the status.
+#[derive(Clone, Copy)]
+struct Text<'a> {
+    name: &'a [u8],
+    digits: &'a [u8],
+    status: &'a [u8],
+}
+
+impl Text<'_> {
+    // Byte `k` of it, 0 past its end.
+    fn byte_at(&self, k: usize) -> u8
+        ensures { TextAt self.now.name.now self.now.digits.now self.now.status.now k result }
+    {
+        if k < self.name.len() {
+            return self.name[k];
+        }
+        let a = k - self.name.len();
+        if a == 0 {
+            return 32;
+        }
+        let b = a - 1;
+        if b < self.digits.len() {
+            return self.digits[b];
+        }
+        let e = b - self.digits.len();
+        if e == 0 {
+            return 58;
+        }
+        if e == 1 {
+            return 32;
+        }
+        let f = e - 2;
+        if f < self.status.len() {
+            return self.status[f];
+        }
+        0
+    }
+
+    // Where it is cut at 127 bytes or before: back while the first dropped byte is 10xxxxxx.
+    fn move_back(&self) -> usize
+        ensures { MovedBack self.now.name.now self.now.digits.now self.now.status.now result }
+    {
+        let mut n: usize = 127;
+        while 0 < n {
+            let b = self.byte_at(n);
+            if b < 128 {
+                return n;
+            }
+            if 192 <= b {
+                return n;
+            }
+            n -= 1;
+        }
+        0
+    }
+
+    // Its length once it is cut.
+    fn cut_len(&self) -> usize
+        requires { CutAsks self.now.name.now self.now.digits.now }
+        ensures { CutLength self.now.name.now self.now.digits.now self.now.status.now result }
+    {
+        if 127 < self.status.len() {
+            return self.move_back();
+        }
+        let n = self.name.len() + self.digits.len() + self.status.len() + 3;
+        if n <= 127 {
             return n;
         }
-        if 192 <= b {
-            return n;
+        self.move_back()
+    }
+
+    // Writes its first `n` bytes into the front of the cell.
+    // Byte by byte, since the cut may fall in any of its parts: a copy of each part up to `n` is no plainer.
+    fn copy(&self, cell: &mut [u8], n: usize)
+        requires { CopyAsks cell.old self.now.name.now self.now.digits.now self.now.status.now n }
+        ensures { Copied cell.old self.now.name.now self.now.digits.now self.now.status.now n cell.new }
+    {
+        for i in 0..n {
+            cell[i] = self.byte_at(i);
         }
-        n -= 1;
-    }
-    0
-}
-
-// The length of the text once it is cut.
-fn cut_len(name: &[u8], digits: &[u8], status: &[u8]) -> usize
-    requires { CutAsks name.now digits.now }
-    ensures { CutLength name.now digits.now status.now result }
-{
-    if 127 < status.len() {
-        return move_back(name, digits, status);
-    }
-    let n = name.len() + digits.len() + status.len() + 3;
-    if n <= 127 {
-        return n;
-    }
-    move_back(name, digits, status)
-}
-
-// Writes the first `n` bytes of the text into the front of the cell.
-fn copy(cell: &mut [u8], name: &[u8], digits: &[u8], status: &[u8], n: usize)
-    requires { CopyAsks cell.old name.now digits.now status.now n }
-    ensures { Copied cell.old name.now digits.now status.now n cell.new }
-{
-    let mut i = 0;
-    while i < n {
-        cell[i] = text_at(name, digits, status, i);
-        i += 1;
     }
 }
 
@@ -129,17 +149,19 @@ pub fn write_message(cell: &mut [u8], name: &[u8], pid: u64, status: &[u8]) -> u
     if status.len() == 0 {
         return 0;
     }
-    let mut d = [0u8; 20];
-    let from = put_digits(&mut d, pid);
+    let digits = Digits::of(pid);
     let end = name_len(name);
-    let front = &name[..end];
-    let digits = &d[from..];
-    let n = cut_len(front, digits, status);
-    copy(cell, front, digits, status, n);
+    let text = Text {
+        name: &name[..end],
+        digits: digits.as_bytes(),
+        status,
+    };
+    let n = text.cut_len();
+    text.copy(cell, n);
     n as u8
 }
 
-// The refusal of lengths: 01's number 2, which is a length too, and 256.
+// The refusal of lengths: the number 2, which is a length too, and 256.
 const REFUSED: u64 = 258;
 
 // For C callers: writes the message of an exit at the front of `cell`, and leaves the bytes behind it. The answer is the

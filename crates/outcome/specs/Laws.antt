@@ -1,5 +1,5 @@
 -- How a step's contract is met: it is done, or refused.
-use Rattle.std.specs.Prelude.{◌≡◌, List, [], ℕ}
+use Rattle.std.specs.Prelude.{◌≡◌, List, [], ℕ, Result, Err}
 use Rattle.std.proofs.Common.{sym, ap, ◌∙◌, arith}
 use Rattle.std.proofs.Math.Option.{none, some}
 use Rattle.machine.specs.Machine.{Machine}
@@ -14,8 +14,8 @@ use Rattle.holds.specs.Holds.{Holds}
 use Rattle.holds.specs.Did.{machine_in}
 use Rattle.holds.specs.Touched.{Spares, spares-none}
 use Rattle.outcome.specs.declared.Reply.{Reply}
-use Rattle.outcome.specs.declared.Reply.TheVariants.{Refused}
-use Rattle.outcome.specs.Means.{means, told, status_of}
+use Rattle.outcome.specs.declared.Refusal.{Refusal}
+use Rattle.outcome.specs.Means.{number, means, told, status_of}
 use Rattle.outcome.specs.Stepped.{Stepped, left_bytes}
 
 step-done : (m : Machine) (x : Step) → refusal m x ≡ none → step_of m x ≡ perform x.body m
@@ -31,7 +31,7 @@ none-some e = let d : ◌≡◌ {A = ℕ} 0 1 = cc in omega arith
 
 -- What the table does not refuse is done.
 pub stepped-done
-    : {z : Sizes} {s s' : List ℕ} {x : Step} {m : List ℕ} {r : Reply}
+    : {z : Sizes} {s s' : List ℕ} {x : Step} {m : List ℕ} {r : Result Reply Refusal}
     → refusal (machine_in z s) x ≡ none
     → Holds z s' 0
     → Spares z s s'
@@ -50,18 +50,19 @@ stepped-done {z} {s} {s'} {x} {m} {r} e h w a t k =
       left = λ n q. absurd (none-some (sym e ∙ refused_by_lem (machine_in z s) x n q));
     }
 
--- A refusal with n.
+-- A refusal with its number.
 pub stepped-left
-    : {z : Sizes} {s s' : List ℕ} {x : Step} {n : ℕ}
-    → refusal (machine_in z s) x ≡ some n
+    : {z : Sizes} {s s' : List ℕ} {x : Step} {e : Refusal}
+    → refusal (machine_in z s) x ≡ some (number e)
     → Holds z s' 0
     → Spares z s s'
-    → left_by n x.body (machine_in z s) ≡ machine_in z s'
-    → left_bytes z s n x.body ≡ s'
-    → Stepped z s s' x [] (Refused n)
+    → left_by (number e) x.body (machine_in z s) ≡ machine_in z s'
+    → left_bytes z s (number e) x.body ≡ s'
+    → Stepped z s s' x [] (Err e)
 unfolding means told refusing
-stepped-left {z} {s} {s'} {x} {n} e h t l b =
-    let d : step_of (machine_in z s) x ≡ refusing n (left_by n x.body (machine_in z s)) = step-refused (machine_in z s) x n e in
+stepped-left {z} {s} {s'} {x} {e} r h t l b =
+    let n : ℕ = number e in
+    let d : step_of (machine_in z s) x ≡ refusing n (left_by n x.body (machine_in z s)) = step-refused (machine_in z s) x n r in
     record {
       holds = h;
       reply = ap (λ (o : Outcome). o.reply) (sym d);
@@ -76,10 +77,10 @@ stepped-left {z} {s} {s'} {x} {n} e h t l b =
 
 -- The same, where it leaves everything.
 pub stepped-refused
-    : {z : Sizes} {s : List ℕ} {x : Step} {n : ℕ}
-    → refusal (machine_in z s) x ≡ some n
+    : {z : Sizes} {s : List ℕ} {x : Step} {e : Refusal}
+    → refusal (machine_in z s) x ≡ some (number e)
     → Holds z s 0
-    → left_by n x.body (machine_in z s) ≡ machine_in z s
-    → left_bytes z s n x.body ≡ s
-    → Stepped z s s x [] (Refused n)
-stepped-refused e h l b = stepped-left e h spares-none l b
+    → left_by (number e) x.body (machine_in z s) ≡ machine_in z s
+    → left_bytes z s (number e) x.body ≡ s
+    → Stepped z s s x [] (Err e)
+stepped-refused r h l b = stepped-left r h spares-none l b

@@ -1,20 +1,21 @@
 -- How long a message an answer says that it has.
-use Rattle.std.specs.Prelude.{ℕ}
+use Rattle.std.specs.Prelude.{ℕ, Result, Ok, Err}
 use Rattle.outcome.specs.declared.Reply.{Reply}
-use Rattle.outcome.specs.declared.Reply.TheVariants.{Pid, Run, RunChild, Done, Asleep, Yes, No, Fired, Exit, Child, Idle, End, Refused}
+use Rattle.outcome.specs.declared.Refusal.{Refusal}
+use Rattle.outcome.specs.declared.Reply.TheVariants.{Pid, Run, RunChild, Done, Asleep, Yes, No, Fired, Exit, Child, Idle, End}
 
--- The length of `Child` and `RunChild`, and 0 of any other answer.
-abbrev pub length_of : Reply → ℕ
-length_of (Pid n) = 0
-length_of (Run n) = 0
-length_of (RunChild n c l) = l
-length_of Done = 0
-length_of Asleep = 0
-length_of Yes = 0
-length_of No = 0
-length_of (Fired f k) = 0
-length_of (Exit n) = 0
-length_of (Child n l) = l
-length_of Idle = 0
-length_of End = 0
-length_of (Refused n) = 0
+-- The length of `Child` and `RunChild`, and 0 of any other answer and of a refusal.
+abbrev pub length_of : Result Reply Refusal → ℕ
+length_of (Ok (Pid n)) = 0
+length_of (Ok (Run n)) = 0
+length_of (Ok (RunChild n c l)) = l
+length_of (Ok Done) = 0
+length_of (Ok Asleep) = 0
+length_of (Ok Yes) = 0
+length_of (Ok No) = 0
+length_of (Ok (Fired f k)) = 0
+length_of (Ok (Exit n)) = 0
+length_of (Ok (Child n l)) = l
+length_of (Ok Idle) = 0
+length_of (Ok End) = 0
+length_of (Err e) = 0

@@ -13,3 +13,4 @@ pub mod RefusalsTsleep
 pub mod RefusalsMake
 pub mod RefusalsExit
 pub mod Took
+pub mod Running

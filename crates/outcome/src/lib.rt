@@ -1,17 +1,66 @@
-// What a step answers.
+// What a step answers, why one is refused, and who runs.
 #![tactic(auto)]
 
-// r9's names of the refusals that it returns as errors (error.rs), with 01's numbers.
-pub const EBADARG: u8 = 10;
+pub mod lent;
 
-pub const ENOVMEM: u8 = 11;
+ghost use Rattle.std.specs.Prelude.{◌≡◌, false, IfOk, IfErr};
+ghost use Rattle.outcome.specs.Means.{number};
+ghost use Rattle.rules.specs.Code.{Long};
+ghost use Rattle.outcome.specs.Running.{IsRunning, NotRunning};
 
-pub const EINUSE: u8 = 14;
+use state::{Index, Sizes, View};
 
-pub const ENOCHILD: u8 = 15;
+// Why a step is refused; a case's value is its number in docs/MACHINE.md, "Refusals". The four that r9 returns as errors have its
+// names.
+#[derive(Clone, Copy, Debug, PartialEq, Eq)]
+pub enum Refusal {
+    // The state is not well formed, or short.
+    NotWellFormed = 1,
+    // No such step, a field out of range, or a message buffer under 127 bytes.
+    NoSuchStep = 2,
+    // The step is marked as taken in interrupt context, and is none that may be.
+    InInterrupt = 3,
+    // No process runs, and the step is of the one that does.
+    NoneRuns = 4,
+    // The condition is false, and another process is asleep on the Rendez.
+    RendezTaken = 5,
+    // The lock that is given up is not held.
+    NotLocked = 6,
+    // No time at all, or a period under 100 µs.
+    ShortDuration = 7,
+    // A reading of the clock below the last accepted one, or over 2^51 - 1.
+    BadReading = 8,
+    // Counts over 2^63 - 1.
+    TooManyCounts = 9,
+    // EBADARG: bad flags.
+    BadArg = 10,
+    // ENOVMEM: no memory for the process.
+    NoVmem = 11,
+    // No free record for a process to be made.
+    NoFreeRecord = 12,
+    // No free cell for a message that is due.
+    NoFreeCell = 13,
+    // EINUSE: the process's wait has not returned.
+    InUse = 14,
+    // ENOCHILD: no living child, and no exit queued.
+    NoChild = 15,
+    // The next pid is 2^64 - 1.
+    NoPidLeft = 16,
+    // A process runs.
+    OneRuns = 17,
+}
 
-// Numbers of processes and timers are as 01 prints them; a message is as long as `length` says, at the front of the message buffer.
-#[derive(Clone, Copy)]
+impl Refusal {
+    // The number that the table of refusals gives it, from 1 to 17.
+    pub fn number(self) -> u8
+        ensures { result ≡ number self }
+    {
+        self as u8
+    }
+}
+
+// Numbers of processes and timers are as the listing prints them; a message is as long as `length` says, at the front of the message buffer.
+#[derive(Clone, Copy, Debug, PartialEq, Eq)]
 pub enum Reply {
     Pid { pid: u64 },
     Run { pid: u64 },
@@ -25,5 +74,24 @@ pub enum Reply {
     Child { pid: u64, length: u8 },
     Idle,
     End,
-    Refused { number: u8 },
+}
+
+// The same for callers that hold the bytes and the sizes apart.
+
+// The record of the process that runs.
+pub fn up(s: &[u8], z: Sizes) -> Result<Index, Refusal>
+    requires { Long z s.now }
+    ensures ok { IfOk result (IsRunning z s.now false) }
+    ensures err { IfErr result (NotRunning z s.now false) }
+{
+    lent::up(&View { bytes: s, sizes: z })
+}
+
+// The record of the process that runs, for a step that is not taken in interrupt context.
+pub fn running(s: &[u8], z: Sizes, in_interrupt: bool) -> Result<Index, Refusal>
+    requires { Long z s.now }
+    ensures ok { IfOk result (IsRunning z s.now in_interrupt) }
+    ensures err { IfErr result (NotRunning z s.now in_interrupt) }
+{
+    lent::running(&View { bytes: s, sizes: z }, in_interrupt)
 }

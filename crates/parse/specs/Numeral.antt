@@ -1,123 +1,95 @@
--- A number in a line, digit by digit.
-use Rattle.std.specs.Prelude.{if◌then◌else◌, ◌≡◌, refl, Bool, true, false, List, [], ◌∷◌, ℕ, suc, ◌+◌, ◌-◌, ◌*◌, ◌^◌, ◌≤◌, ◌<◌, eqb, leb, length, get_or, drop}
-use Rattle.std.proofs.Common.{sym, ◌∙◌, arith, eq-eqb, ne_eqb, eqb-true, lt-ltb, leb-true, leb-false, drop_of_length-le, drop-cons}
-use Rattle.std.proofs.Math.Option.{Option, none, some}
-use Rattle.std.proofs.Math.Numerals.{add-one}
-use Rattle.machine.specs.Parse.{first_word, after_space, value_from, number}
-use Rattle.parse.specs.Words.{word_space, word_more}
-use Rattle.parse.specs.Rest.{rest_at, after-here, after-end, after_more}
-use Rattle.parse.specs.Values.{value-digit, value_low, value-high, value_big}
+-- A number in decimal, digit by digit.
+use Rattle.std.specs.Prelude.{if◌then◌else◌, ◌≡◌, refl, Bool, true, false, ◌&&◌, List, [], ◌∷◌, ℕ, suc, ◌+◌, ◌-◌, ◌*◌, ◌^◌, ◌≤◌, ◌<◌, ◌⊎◌, leb, ltb, length, get_or, drop}
+use Rattle.std.proofs.Common.{sym, ap, ◌∙◌, ⊎_elim, add-one, arith, lt-ltb, le-ltb, ltb-true, le-leb, leb-true, drop_of_length-le, drop-cons}
+use Rattle.std.proofs.Math.Option.{none, some}
+use Rattle.std.proofs.lemmas.Bool.{lt-leb}
+use Rattle.machine.specs.Parse.{value_from, number}
 
--- What is left of a number whose digits so far are v; none so far where it begins.
-unfoldable pub going : Bool → ℕ → List ℕ → Option ℕ
-going true v w = number w
-going false v w = value_from v w
+-- One byte of a number.
+module _ (v b : ℕ) (bs : List ℕ) where
+  value_by : (c : Bool) → (leb 48 b && leb b 57) ≡ c → value_from v (b ∷ bs) ≡ if c then value_from (v * 10 + (b - 48)) bs else none
+  unfolding value_from
+  value_by true e = ap (λ (c : Bool). elim c [ true ↦ value_from (v * 10 + (b - 48)) bs | false ↦ none ]) e
+  value_by false e = ap (λ (c : Bool). elim c [ true ↦ value_from (v * 10 + (b - 48)) bs | false ↦ none ]) e
 
--- The number from `at` up to a space or the end; it ends where it begins if there is none.
-pub record Numeral (line : List ℕ) (at value end : ℕ) : Type 0 where
-  pub from : at ≤ end
-  pub within : end ≤ length line
-  pub read : number (first_word (drop at line)) ≡ if eqb end at then none else some value
-  pub rest : at < end → after_space (drop at line) ≡ rest_at line end
+  value-digit : 48 ≤ b → b ≤ 57 → value_from v (b ∷ bs) ≡ value_from (v * 10 + (b - 48)) bs
+  value-digit l h = value_by true (rw (le-leb 48 b l, le-leb b 57 h))
 
--- The bytes from `at` to i are digits of the value v.
-pub record Digits (line : List ℕ) (at v i : ℕ) : Type 0 where
-  pub from : at ≤ i
-  pub within : i ≤ length line
-  pub small : v < 2 ^ 64
-  pub first : i ≡ at → v ≡ 0
-  pub read : number (first_word (drop at line)) ≡ going (eqb i at) v (first_word (drop i line))
-  pub rest : after_space (drop at line) ≡ after_space (drop i line)
+  value-other : (b < 48) ⊎ (57 < b) → value_from v (b ∷ bs) ≡ none
+  value-other o =
+      value_by false
+      (go (leb 48 b) refl o)
+    where
+      go : (c : Bool) → leb 48 b ≡ c → (b < 48) ⊎ (57 < b) → (c && leb b 57) ≡ false
+      go false e o = refl
+      go true e o = lt-leb b 57 (⊎_elim (λ l. absurd (omega (arith, leb-true 48 b e))) (λ l. l) o)
 
-pub digits-start : {line : List ℕ} {at : ℕ} → at ≤ length line → Digits line at 0 at
-unfolding going
-digits-start {line} {at} h =
-    record {
-      from = omega arith;
-      within = h;
-      small = omega arith;
-      first = λ e. refl;
-      read = rw (eq-eqb at at refl);
-      rest = refl;
-    }
-
--- With a byte more the number is that of its digits.
-going_more : (i at v b : ℕ) (bs : List ℕ) → (i ≡ at → v ≡ 0) → going (eqb i at) v (b ∷ bs) ≡ value_from v (b ∷ bs)
-unfolding going number
-going_more i at v b bs z = go (eqb i at) refl
+-- A value over 64 bits stays one.
+value_big : (v : ℕ) (bs : List ℕ) → 2 ^ 64 ≤ v → value_from v bs ≡ none
+unfolding value_from
+value_big v [] h = rw (le-ltb v (2 ^ 64) h)
+value_big v (b ∷ bs) h = value_by v b bs (leb 48 b && leb b 57) refl ∙ go (leb 48 b && leb b 57) (value_big (v * 10 + (b - 48)) bs (omega arith))
   where
-    go : (c : Bool) → eqb i at ≡ c → going c v (b ∷ bs) ≡ value_from v (b ∷ bs)
-    go true e = rw (z (eqb-true i at e))
-    go false e = refl
+    go : (c : Bool) → value_from (v * 10 + (b - 48)) bs ≡ none → (if c then value_from (v * 10 + (b - 48)) bs else none) ≡ none
+    go true r = r
+    go false r = refl
 
-going_end : (c : Bool) (v : ℕ) → v < 2 ^ 64 → going c v [] ≡ if c then none else some v
-unfolding going number value_from
-going_end true v h = refl
-going_end false v h = rw (lt-ltb v (2 ^ 64) h)
+-- A value that was read is below 2^64.
+value-below : (v x : ℕ) (bs : List ℕ) → value_from v bs ≡ some x → x < 2 ^ 64
+unfolding value_from
+value-below v x [] e = go (ltb v (2 ^ 64)) refl e
+  where
+    go : (c : Bool) → ltb v (2 ^ 64) ≡ c → (if c then some v else none) ≡ some x → x < 2 ^ 64
+    go true t q = let y : v ≡ x = cc in omega (arith, ltb-true v (2 ^ 64) t)
+    go false t q = let z : ◌≡◌ {A = ℕ} 0 1 = cc in omega arith
+value-below v x (b ∷ bs) e =
+    go (leb 48 b && leb b 57) (sym (value_by v b bs (leb 48 b && leb b 57) refl) ∙ e) (value-below (v * 10 + (b - 48)) x bs)
+  where
+    go : (c : Bool) → (if c then value_from (v * 10 + (b - 48)) bs else none) ≡ some x
+        → (value_from (v * 10 + (b - 48)) bs ≡ some x → x < 2 ^ 64)
+        → x < 2 ^ 64
+    go true q r = r q
+    go false q r = let z : ◌≡◌ {A = ℕ} 0 1 = cc in omega arith
 
-module _ {line : List ℕ} {at v i : ℕ} (w : Digits line at v i) where
-  ended : first_word (drop i line) ≡ [] → after_space (drop i line) ≡ rest_at line i → Numeral line at v i
-  ended e r =
-      record {
-        from = w.from;
-        within = w.within;
-        read = w.read ∙ (rw e (going_end (eqb i at) v w.small));
-        rest = λ h. w.rest ∙ r;
-      }
+pub number-below : (x : ℕ) (w : List ℕ) → number w ≡ some x → x < 2 ^ 64
+unfolding number
+number-below x [] e = let z : ◌≡◌ {A = ℕ} 0 1 = cc in omega arith
+number-below x (b ∷ bs) e = value-below 0 x (b ∷ bs) e
 
-  pub numeral_space : i < length line → get_or line i 0 ≡ 32 → Numeral line at v i
-  numeral_space h s = ended (rw (drop-cons line i 0 h) (word_space (get_or line i 0) (drop (suc i) line) s)) (after-here line i h s)
+-- The empty word is no number.
+pub number-empty : (word : List ℕ) → length word ≡ 0 → number word ≡ none
+unfolding number
+number-empty [] h = refl
+number-empty (b ∷ bs) h = absurd (omega arith)
 
-  pub numeral_end : length line ≤ i → Numeral line at v i
-  unfolding first_word
-  numeral_end h = ended (rw (drop_of_length-le line {i = i} h)) (after-end line i h)
+-- The first i bytes of a word are digits of the value v.
+pub record Digits (word : List ℕ) (v i : ℕ) : Type 0 where
+  pub small : v < 2 ^ 64
+  pub read : number word ≡ value_from v (drop i word)
 
-  module _ (h : i < length line) (s : get_or line i 0 ≡ 32 → ⊥) where
-    next : number (first_word (drop at line)) ≡ value_from v (get_or line i 0 ∷ first_word (drop (suc i) line))
-    next =
-        w.read
-        ∙ (rw (drop-cons line i 0 h, word_more (get_or line i 0) (drop (suc i) line) s) (going_more i at v (get_or line i 0) (first_word (drop (suc i) line)) w.first))
+pub digits-start : (word : List ℕ) → 0 < length word → Digits word 0 0
+unfolding number
+digits-start [] h = absurd (omega arith)
+digits-start (b ∷ bs) h = record { small = omega arith; read = refl }
 
-    no_number : number (first_word (drop at line)) ≡ none → Numeral line at 0 at
-    no_number e =
-        record {
-          from = omega arith;
-          within = omega (arith, w.from, w.within);
-          read = rw (e, eq-eqb at at refl);
-          rest = λ l. absurd (omega arith);
-        }
+module _ {word : List ℕ} {v i : ℕ} (w : Digits word v i) where
+  module _ (h : i < length word) where
+    next : number word ≡ value_from v (get_or word i 0 ∷ drop (suc i) word)
+    next = w.read ∙ ap (value_from v) (drop-cons word i 0 h)
 
-    pub numeral_low : get_or line i 0 < 48 → Numeral line at 0 at
-    numeral_low l = no_number (next ∙ value_low v (get_or line i 0) (first_word (drop (suc i) line)) l)
+    pub digits-other : (get_or word i 0 < 48) ⊎ (57 < get_or word i 0) → number word ≡ none
+    digits-other o = next ∙ value-other v (get_or word i 0) (drop (suc i) word) o
 
-    pub numeral_high : 48 ≤ get_or line i 0 → 57 < get_or line i 0 → Numeral line at 0 at
-    numeral_high l m = no_number (next ∙ value-high v (get_or line i 0) (first_word (drop (suc i) line)) l m)
+    module _ (l : 48 ≤ get_or word i 0) (m : get_or word i 0 ≤ 57) where
+      digit : number word ≡ value_from (v * 10 + (get_or word i 0 - 48)) (drop (suc i) word)
+      digit = next ∙ value-digit v (get_or word i 0) (drop (suc i) word) l m
 
-    module _ {r : Bool} (l : 48 ≤ get_or line i 0) (m : get_or line i 0 ≤ 57) (o : r ≡ leb (2 ^ 64) (v * 10 + (get_or line i 0 - 48))) where
-      digit : number (first_word (drop at line)) ≡ value_from (v * 10 + (get_or line i 0 - 48)) (first_word (drop (suc i) line))
-      digit = next ∙ value-digit v (get_or line i 0) (first_word (drop (suc i) line)) l m
+      pub digits-big : 2 ^ 64 ≤ v * 10 + (get_or word i 0 - 48) → number word ≡ none
+      digits-big t = digit ∙ value_big (v * 10 + (get_or word i 0 - 48)) (drop (suc i) word) t
 
-      pub numeral_big : r ≡ true → Numeral line at 0 at
-      numeral_big t =
-          no_number
-          (digit
-          ∙ value_big (v * 10 + (get_or line i 0 - 48)) (first_word (drop (suc i) line))
-          (leb-true (2 ^ 64) (v * 10 + (get_or line i 0 - 48)) (sym o ∙ t)))
+      pub digits_more : v * 10 + (get_or word i 0 - 48) < 2 ^ 64 → Digits word (v * 10 + (get_or word i 0 - 48)) (i + 1)
+      digits_more s = record { small = s; read = rw (add-one i) digit }
 
-      pub digits_fit : r ≡ false → v * 10 + (get_or line i 0 - 48) < 2 ^ 64
-      digits_fit t = leb-false (2 ^ 64) (v * 10 + (get_or line i 0 - 48)) (sym o ∙ t)
-
-      pub tenfold_fit : r ≡ false → v * 10 < 2 ^ 64
-      tenfold_fit t = omega (arith, digits_fit t)
-
-      pub digits_more : r ≡ false → Digits line at (v * 10 + (get_or line i 0 - 48)) (i + 1)
-      unfolding going
-      digits_more t =
-          record {
-            from = omega (arith, w.from);
-            within = omega arith;
-            small = digits_fit t;
-            first = λ e. absurd (omega (arith, w.from));
-            read = rw (ne_eqb (i + 1) at (λ e. omega (arith, w.from)), add-one i) digit;
-            rest = w.rest ∙ after_more line i h s;
-          }
+  pub digits-end : length word ≤ i → number word ≡ some v
+  unfolding value_from
+  digits-end h = w.read ∙ rw (drop_of_length-le word {i = i} h, lt-ltb v (2 ^ 64) w.small)

@@ -1,26 +1,25 @@
 -- The step that the bytes written are.
-use Rattle.std.specs.Prelude.{◌≡◌, refl, Bool, true, false, T, length, List, [], ◌∷◌, ℕ, zero, suc, ◌+◌, ◌-◌, ◌≤◌, ◌<◌}
-use Rattle.std.proofs.Common.{sym, ap, ◌∙◌, arith, ne_eqb, length-append, drop_of_length-le, take_at, drop_at}
+use Rattle.std.specs.Prelude.{if◌then◌else◌, ◌≡◌, ◌≢◌, refl, Bool, true, false, length, List, [], ◌∷◌, ℕ, ◌+◌, ◌-◌, ◌^◌, ◌≤◌, ◌<◌, Some, None, unwrap_or, ltb, eqb, ◌&&◌}
+use Rattle.std.specs.Prelude as rust
+use Rattle.std.specs.Cmp.Lexicographic.{pointwise}
+use Rattle.std.proofs.Common.{sym, ap, ◌∙◌, arith, lt-ltb, le-ltb, length-append, take_at, drop_at}
 use Rattle.std.proofs.Math.Option.{Option, none, some}
-use Rattle.std.proofs.Math.Numerals.{add-one}
 use Rattle.std.proofs.Math.ListN.{take, drop, length-drop}
-use Rattle.std.proofs.Math.Seq.{take_all, take-nil}
+use Rattle.machine.specs.Basics.{same, ascii}
 use Rattle.machine.specs.Step.{Step, Body, kinds}
 use Rattle.machine.specs.Bytes.{marking, decode}
-use Rattle.machine.specs.Parse.{bytes_in, parse_body}
-use Rattle.parse.specs.Kinds.{form_of, body_as}
-use Rattle.parse.specs.Table.{says}
-use Rattle.parse.specs.Rest.{rest_at, rest_space, rest_end}
-use Rattle.parse.specs.Named.{Named, no-form}
-use Rattle.parse.specs.Filled.{Filled}
+use Rattle.machine.specs.Parse.{first_word, after_space, bytes_in, fields_in, parse_body, step_with, parse_line}
+use Rattle.parse.specs.declared.Fields.TheVariants.{Numbers, Bytes}
+use Rattle.parse.specs.declared.Kind.{Kind}
+use Rattle.parse.specs.Kinds.{number, word_of, IsNoWord, form_of, IsOfForm, body-kind, body-other}
+use Rattle.parse.specs.Fields.{exactly}
 use Rattle.parse.specs.Puts.{number_bytes, text_bytes, Put}
 use Rattle.parse.specs.Steps.{decodes, Stepped, numbers-step, no-numbers-step, text-step}
 
--- A line without its mark, its mark as a byte, and room for its step bytes.
-pub record Asks (line out : List ℕ) (mark : ℕ) : Type 0 where
+-- A line without its mark, and room for its step bytes.
+pub record Asks (line out : List ℕ) : Type 0 where
   pub short : length line ≤ 4096
   pub room : 4128 ≤ length out
-  pub bit : mark ≤ 1
 
 -- The first r bytes are the bytes of the step s, none where there is no step; the others stay.
 pub record Parsed (s : Option Step) (out out' : List ℕ) (r : ℕ) : Type 0 where
@@ -30,77 +29,101 @@ pub record Parsed (s : Option Step) (out out' : List ℕ) (r : ℕ) : Type 0 whe
   pub long : length out' ≡ length out
   pub rest : drop r out' ≡ drop r out
 
-pub parsed-none : {s : Option Step} {out : List ℕ} → s ≡ none → Parsed s out out 0
+-- There is no step and nothing is written, or so many bytes are those of the step.
+abbrev pub IsParsed : Option Step → List ℕ → List ℕ → rust.Option ℕ → Type 0
+IsParsed s out out' None = (s ≡ none) × (out' ≡ out)
+IsParsed s out out' (Some r) = (s ≢ none) × Parsed s out out' r
+
+-- No bytes stand for no step.
+pub parsed-or : (s : Option Step) (out out' : List ℕ) (r : rust.Option ℕ) → IsParsed s out out' r → Parsed s out out' (unwrap_or r 0)
 unfolding decode
-parsed-none e = record { step = sym e; none_put = λ q. refl; fits = omega arith; long = refl; rest = refl }
+parsed-or s out out' None h =
+    record { step = sym h.0; none_put = λ q. refl; fits = omega arith; long = ap length h.1; rest = h.1 }
+parsed-or s out out' (Some r) h = h.1
 
-parsed-put : {s : Option Step} {bytes out out' : List ℕ} {r : ℕ} → decode bytes ≡ s → (s ≡ none → ⊥) → Put bytes out out' r → Parsed s out out' r
-parsed-put {s} {bytes} {out} {out'} {r} e n p =
-    let l : length out' ≡ length out = ap length p.held ∙ length-append bytes (drop r out) ∙ omega (arith, length-drop r out, p.size, p.fits) in
-    record {
-      step = rw (p.held, take_at bytes (drop r out) r (sym p.size)) e;
-      none_put = λ q. absurd (n q);
-      fits = omega (arith, p.fits);
-      long = l;
-      rest = rw p.held (drop_at bytes (drop r out) r (sym p.size));
-    }
+-- The mark as a byte.
+abbrev pub bit : Bool → ℕ
+bit b = if b then 1 else 0
 
--- A body and a mark are a step.
-some-step : (mark : ℕ) (b : Body) → mark ≤ 1 → marking mark (some b) ≡ none → ⊥
-unfolding marking
-some-step zero b h e = let z : ◌≡◌ {A = ℕ} 0 1 = cc in omega arith
-some-step (suc zero) b h e = let z : ◌≡◌ {A = ℕ} 0 1 = cc in omega arith
-some-step (suc (suc m)) b h e = omega arith
+marks : (b : Bool) (o : Option Body) → marking (bit b) o ≡ step_with b o
+unfolding marking step_with
+marks true none = refl
+marks true (some x) = refl
+marks false none = refl
+marks false (some x) = refl
 
--- `body`: no kind, a byte string, numbers, and other than its numbers.
-module _ (mark : ℕ) {line : List ℕ} {kind n end : ℕ} (w : Named line kind n end) where
-  no_body : {out : List ℕ} → body_as (form_of kinds kind) (rest_at line end) ≡ none → Parsed (marking mark (parse_body kinds line)) out out 0
-  unfolding marking
-  no_body e = parsed-none (ap (marking mark) (w.body ∙ e))
+no-step : (b : Bool) (o : Option Body) → o ≡ none → step_with b o ≡ none
+unfolding step_with
+no-step b o e = rw e
 
-  pub body-none : {out : List ℕ} → kind ≡ 0 → Parsed (marking mark (parse_body kinds line)) out out 0
-  body-none e = no_body (rw e (sym (no-form (rest_at line end))))
+some-step : (b : Bool) (o : Option Body) (x : Body) → o ≡ some x → step_with b o ≢ none
+unfolding step_with
+some-step b o x e h = let y : Step = record { marked = b; body = x } in let q : ◌≡◌ {A = Option Step} (some y) none = sym (ap (step_with b) e) ∙ h in (cc)
 
-  module _ (k : kind ≡ 0 → ⊥) where
-    form : T (says (form_of kinds kind) n)
-    form = rw (ne_eqb kind 0 k) at w.form
+-- `body`: no kind, other than its numbers, numbers, and a byte string.
+module _ (b : Bool) (line out : List ℕ) where
+  pub body-none : IsNoWord (first_word line) → IsParsed (step_with b (parse_body kinds line)) out out None
+  body-none h = (no-step b (parse_body kinds line) (body-other line h), refl)
 
-    stepped : {out out' bs : List ℕ} {r : ℕ} → Asks line out mark → Stepped (form_of kinds kind) (rest_at line end) (kind ∷ mark ∷ bs)
-        → Put (kind ∷ mark ∷ bs) out out' r
-        → Parsed (marking mark (parse_body kinds line)) out out' r
-    stepped {bs = bs} a s p =
-        let q : parse_body kinds line ≡ some s.body = w.body ∙ s.parsed in
-        rw q (parsed-put (decodes kind mark bs ∙ ap (marking mark) s.decoded) (some-step mark s.body a.bit) p)
+  module _ (k : Kind) (w : first_word line ≡ word_of k) where
+    stepped : {out' bs : List ℕ} {r : ℕ} → Stepped (form_of kinds (number k)) (after_space line) (number k ∷ bit b ∷ bs)
+        → Put (number k ∷ bit b ∷ bs) out out' r
+        → IsParsed (step_with b (parse_body kinds line)) out out' (Some r)
+    stepped {out'} {bs} {r} s p =
+        let bytes : List ℕ = number k ∷ bit b ∷ bs in
+        let q : parse_body kinds line ≡ some s.body = body-kind line k w ∙ s.parsed in
+        let n : step_with b (parse_body kinds line) ≢ none = some-step b (parse_body kinds line) s.body q in
+        let d : decode bytes ≡ step_with b (parse_body kinds line) =
+        decodes (number k) (bit b) bs ∙ ap (marking (bit b)) s.decoded ∙ marks b (some s.body) ∙ ap (step_with b) (sym q) in
+        let l : length out' ≡ length out = ap length p.held ∙ length-append bytes (drop r out) ∙ omega (arith, length-drop r out, p.size, p.fits) in (
+          n,
+          record {
+            step = rw (p.held, take_at bytes (drop r out) r (sym p.size)) d;
+            none_put = λ e. absurd (n e);
+            fits = omega (arith, p.fits);
+            long = l;
+            rest = rw p.held (drop_at bytes (drop r out) r (sym p.size));
+          },
+        )
 
-    pub body-text : {out out' : List ℕ} {r : ℕ} → Asks line out mark → n ≡ 7 → end < length line
-        → Put (text_bytes kind mark (take (length line - (end + 1)) (drop (end + 1) line))) out out' r
-        → Parsed (marking mark (parse_body kinds line)) out out' r
-    unfolding bytes_in text_bytes
-    body-text a e l p =
-        let text : List ℕ = take (length line - (end + 1)) (drop (end + 1) line) in
-        let t : text ≡ drop (end + 1) line = take_all (length line - (end + 1)) (drop (end + 1) line) (omega (arith, length-drop (end + 1) line)) in
-        stepped a
-        (text-step (form_of kinds kind) kind mark text (rest_at line end) (rw e at form) (rw (rest_space line end l, t, add-one end))
-        (rw t (omega (arith, length-drop (end + 1) line, a.short))))
-        p
+    pub body-unread : (n : ℕ) → IsOfForm (Numbers n) (form_of kinds (number k)) → exactly n (fields_in (after_space line)) ≡ none
+        → IsParsed (step_with b (parse_body kinds line)) out out None
+    body-unread n t e =
+        (no-step b (parse_body kinds line) (body-kind line k w ∙ no-numbers-step (form_of kinds (number k)) n (after_space line) t e), refl)
 
-    pub body-empty : {out out' : List ℕ} {r : ℕ} → Asks line out mark → n ≡ 7 → length line ≤ end
-        → Put (text_bytes kind mark (take (length line - end) (drop end line))) out out' r
-        → Parsed (marking mark (parse_body kinds line)) out out' r
-    unfolding bytes_in text_bytes
-    body-empty a e l p =
-        let text : List ℕ = take (length line - end) (drop end line) in
-        let t : text ≡ [] = rw (drop_of_length-le line {i = end} l) (take-nil (length line - end)) in
-        stepped a
-        (text-step (form_of kinds kind) kind mark text (rest_at line end) (rw e at form) (rw (rest_end line end l, t)) (rw t (omega arith)))
-        p
+    pub body-numbers : (n : ℕ) {xs out' : List ℕ} {r : ℕ} → IsOfForm (Numbers n) (form_of kinds (number k))
+        → exactly n (fields_in (after_space line)) ≡ some xs
+        → Put (number_bytes (number k) (bit b) xs) out out' r
+        → IsParsed (step_with b (parse_body kinds line)) out out' (Some r)
+    unfolding number_bytes
+    body-numbers n {xs} t e p = stepped (numbers-step (form_of kinds (number k)) (number k) (bit b) n xs (after_space line) t e) p
 
-    module _ {fields : List ℕ} {r : Bool} (g : Filled line end n fields r) where
-      pub body-numbers : {out out' : List ℕ} {m : ℕ} → Asks line out mark → r ≡ true → Put (number_bytes kind mark (take n fields)) out out' m
-          → Parsed (marking mark (parse_body kinds line)) out out' m
-      unfolding number_bytes
-      body-numbers a e p =
-          stepped a (numbers-step (form_of kinds kind) kind mark n (take n fields) (rest_at line end) form g.few (rw e at g.read)) p
+    pub body-text : {text out' : List ℕ} {r : ℕ} → IsOfForm Bytes (form_of kinds (number k)) → bytes_in (after_space line) ≡ text → length text < 2 ^ 32
+        → Put (text_bytes (number k) (bit b) text) out out' r
+        → IsParsed (step_with b (parse_body kinds line)) out out' (Some r)
+    unfolding text_bytes
+    body-text {text} t e h p = stepped (text-step (form_of kinds (number k)) (number k) (bit b) text (after_space line) t e h) p
 
-      pub body_unread : {out : List ℕ} → r ≡ false → Parsed (marking mark (parse_body kinds line)) out out 0
-      body_unread e = no_body (no-numbers-step (form_of kinds kind) n (rest_at line end) form g.few (rw e at g.read))
+-- Two tests of two lists of bytes.
+same-pointwise : (xs ys : List ℕ) → pointwise eqb xs ys ≡ same xs ys
+unfolding same
+same-pointwise [] [] = refl
+same-pointwise [] (y ∷ ys) = refl
+same-pointwise (x ∷ xs) [] = refl
+same-pointwise (x ∷ xs) (y ∷ ys) = ap (λ (c : Bool). eqb x y && c) (same-pointwise xs ys)
+
+-- The step of a whole line: too long, marked, and not marked.
+pub parsed-long : (line : List ℕ) {out : List ℕ} → 4096 < length line → IsParsed (parse_line line) out out None
+unfolding parse_line
+parsed-long line h = (rw (lt-ltb 4096 (length line) h), refl)
+
+module _ (line out out' : List ℕ) (r : rust.Option ℕ) (h : length line ≤ 4096) where
+  pub parsed-marked : pointwise eqb (take 2 line) (105 ∷ 32 ∷ []) ≡ true → IsParsed (step_with true (parse_body kinds (drop 2 line))) out out' r
+      → IsParsed (parse_line line) out out' r
+  unfolding parse_line ascii
+  parsed-marked e p = rw (le-ltb 4096 (length line) h, ← same-pointwise (take 2 line) (105 ∷ 32 ∷ []), e) p
+
+  pub parsed-plain : pointwise eqb (take 2 line) (105 ∷ 32 ∷ []) ≡ false → IsParsed (step_with false (parse_body kinds line)) out out' r
+      → IsParsed (parse_line line) out out' r
+  unfolding parse_line ascii
+  parsed-plain e p = rw (le-ltb 4096 (length line) h, ← same-pointwise (take 2 line) (105 ∷ 32 ∷ []), e) p

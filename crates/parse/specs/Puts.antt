@@ -1,12 +1,11 @@
 -- The bytes of a step, written at the front of others.
-use Rattle.std.specs.Prelude.{◌≡◌, refl, List, [], ◌∷◌, ◌++◌, ℕ, ◌+◌, ◌*◌, ◌^◌, ◌≤◌, ◌<◌, length, get_or, take, drop, set}
-use Rattle.std.proofs.Common.{sym, ◌∙◌, add-one, arith, length-append, length-set, length-take-le}
-use Rattle.std.proofs.Math.Seq.{take-length, paste, paste-zero, paste-suc}
-use Rattle.memory.specs.Le.{put}
+use Rattle.std.specs.Prelude.{◌≡◌, refl, List, [], ◌∷◌, ◌++◌, ℕ, zero, suc, ◌+◌, ◌*◌, ◌/◌, ◌%◌, ◌^◌, ◌≤◌, ◌<◌, length, get_or, take, drop, set}
+use Rattle.std.proofs.Common.{sym, ap, ◌∙◌, append_assoc, append-nil, add-one, add-zero, add-suc, suc-add, arith, length-append, length-drop, length-set, take-append-drop, length-take-le, take-suc-set, take-suc, drop-set-lt, take_at, drop-drop}
+use Rattle.std.proofs.Math.Seq.{append_snoc, drop-append-add, take_all}
+use Rattle.memory.specs.Le.{put, length-put}
 use Rattle.machine.specs.Basics.{concat_map}
 use Rattle.machine.specs.Bytes.{bytes_of}
 use Rattle.machine.proofs.BytesLaws.{length_fields}
-use Rattle.parse.specs.Stores.{drop-behind, put-behind, NumbersAsk, Stored}
 
 -- The bytes of a step with numbers as its fields, and with a byte string.
 unfoldable pub number_bytes : ℕ → ℕ → List ℕ → List ℕ
@@ -27,53 +26,94 @@ head-put [] h = absurd (omega arith)
 head-put (x ∷ []) h = absurd (omega arith)
 head-put (x ∷ y ∷ out) h = refl
 
-pub numbers-put : {kind mark : ℕ} {fields out out₁ out₂ : List ℕ} {n : ℕ} → NumbersAsk out fields n
-    → out₁ ≡ kind ∷ mark ∷ drop 2 out
-    → Stored fields n out₁ out₂
-    → Put (number_bytes kind mark (take n fields)) out out₂ (2 + 8 * n)
-unfolding number_bytes
-numbers-put {kind} {mark} {fields} {out} {out₁} {out₂} {n} a f k =
-    record {
-      size = sym (omega (arith, length_fields (take n fields), length-take-le n fields (omega (arith, a.few, a.long))));
-      fits = a.room;
-      held = k.held ∙ (rw (f, drop-behind (kind ∷ mark ∷ []) out 2 (8 * n) refl));
-    }
+-- A number put at a place, in bytes.
+put_is : (n : ℕ) (s : List ℕ) (at v : ℕ) → at + n ≤ length s → put n s at v ≡ take at s ++ bytes_of n v ++ drop (at + n) s
+unfolding put bytes_of
+put_is zero s at v h = rw (append-nil (take at s), add-zero at) (sym (take-append-drop at s))
+put_is (suc n) s at v h =
+    let x : ℕ = v % 256 in
+    let t : take (suc at) (set s at x) ≡ take at s ++ (x ∷ []) = take-suc-set s at x (omega arith) in
+    let d : drop (suc at + n) (set s at x) ≡ drop (suc at + n) s = drop-set-lt (suc at + n) s at x (omega arith) in
+    put_is n (set s at x) (suc at) (v / 256) (omega (arith, length-set s at x))
+    ∙ (rw (t, d, append_snoc (take at s) x (bytes_of n (v / 256)), suc-add at n, add-suc at n))
 
--- The copy of a byte string to place 6; the first i bytes of it.
-pub record Copied (text out out' : List ℕ) : Type 0 where
-  pub held : out' ≡ paste out 6 text (length text)
+-- A number put behind what is written.
+drop-behind : (front out : List ℕ) (at n : ℕ) → length front ≡ at → drop (at + n) (front ++ drop at out) ≡ drop (at + n) out
+drop-behind front out at n e =
+    ap (λ (k : ℕ). drop (k + n) (front ++ drop at out)) (sym e) ∙ drop-append-add front (drop at out) n ∙ drop-drop n at out
 
-pub record Copying (text out out' : List ℕ) (i : ℕ) : Type 0 where
-  pub room : 6 + length text ≤ length out
-  pub so_far : i ≤ length text
+put-behind : (n : ℕ) (front out : List ℕ) (at v : ℕ) → length front ≡ at → at + n ≤ length out
+    → put n (front ++ drop at out) at v ≡ front ++ bytes_of n v ++ drop (at + n) out
+put-behind n front out at v e h =
+    let d : drop (at + n) (front ++ drop at out) ≡ drop (at + n) out = drop-behind front out at n e in
+    put_is n (front ++ drop at out) at v (omega (arith, length-append front (drop at out), length-drop at out))
+    ∙ (rw (take_at front (drop at out) at e, d))
+
+concat_last : (xs : List ℕ) (v : ℕ) → concat_map (bytes_of 8) (xs ++ v ∷ []) ≡ concat_map (bytes_of 8) xs ++ bytes_of 8 v
+unfolding concat_map
+concat_last [] v = append-nil (bytes_of 8 v)
+concat_last (x ∷ xs) v = rw (concat_last xs v) (sym (append_assoc (bytes_of 8 x) (concat_map (bytes_of 8) xs) (bytes_of 8 v)))
+
+-- Numbers written from byte 2 on; and the first j of them.
+pub record Stored (numbers out out' : List ℕ) : Type 0 where
+  pub held : out' ≡ take 2 out ++ concat_map (bytes_of 8) numbers ++ drop (2 + 8 * length numbers) out
+
+pub record Storing (numbers out out' : List ℕ) (j : ℕ) : Type 0 where
   pub long : length out' ≡ length out
-  pub held : out' ≡ paste out 6 text i
+  pub held : out' ≡ take 2 out ++ concat_map (bytes_of 8) (take j numbers) ++ drop (2 + 8 * j) out
 
-pub copying_start : {text out : List ℕ} → 6 + length text ≤ length out → Copying text out out 0
-copying_start {text} {out} h = record { room = h; so_far = omega arith; long = refl; held = paste-zero out 6 text }
+pub storing_start : {numbers out : List ℕ} → Storing numbers out out 0
+unfolding concat_map
+storing_start {numbers} {out} = record { long = refl; held = rw (append-nil (take 2 out)) (sym (take-append-drop 2 out)) }
 
-pub copying_more : {text out out' out'' : List ℕ} {i : ℕ} → Copying text out out' i → i < length text → out'' ≡ set out' (6 + i) (get_or text i 0)
-    → Copying text out out'' (i + 1)
-copying_more {text} {out} {out'} {out''} {i} w h e =
+module _ {numbers out out' : List ℕ} {j : ℕ} (w : Storing numbers out out' j) (room : 2 + 8 * length numbers ≤ length out) where
+  written : j ≤ length numbers → length (take 2 out ++ concat_map (bytes_of 8) (take j numbers)) ≡ 2 + 8 * j
+  written h =
+      length-append (take 2 out) (concat_map (bytes_of 8) (take j numbers))
+      ∙ omega (arith, length-take-le 2 out (omega arith), length_fields (take j numbers), length-take-le j numbers h)
+
+  pub storing_more : {out'' : List ℕ} → j < length numbers → out'' ≡ put 8 out' (2 + 8 * j) (get_or numbers j 0) → Storing numbers out out'' (j + 1)
+  storing_more {out''} h e =
+      let v : ℕ = get_or numbers j 0 in
+      let front : List ℕ = take 2 out ++ concat_map (bytes_of 8) (take j numbers) in
+      let t : take (j + 1) numbers ≡ take j numbers ++ v ∷ [] = rw (add-one j) (take-suc numbers j 0 h) in
+      let a : 2 + 8 * (j + 1) ≡ 2 + 8 * j + 8 = omega arith in
+      record {
+        long = rw e (length-put 8 out' (2 + 8 * j) v ∙ w.long);
+        held =
+            rw (e, w.held, t, concat_last (take j numbers) v, a)
+            (put-behind 8 front out (2 + 8 * j) v (written (omega arith)) (omega arith)
+            ∙ ap (λ (l : List ℕ). l ++ drop (2 + 8 * j + 8) out) (append_assoc (take 2 out) (concat_map (bytes_of 8) (take j numbers)) (bytes_of 8 v)));
+      }
+
+  pub stored : j ≡ length numbers → Stored numbers out out'
+  stored h =
+      let t : take j numbers ≡ numbers = take_all j numbers (omega arith) in
+      record { held = w.held ∙ rw (t, h) }
+
+-- The numbers behind the kind and the mark.
+pub numbers-put : {kind mark : ℕ} {numbers out out₁ out₂ : List ℕ} → 2 + 8 * length numbers ≤ length out
+    → out₁ ≡ kind ∷ mark ∷ drop 2 out
+    → Stored numbers out₁ out₂
+    → Put (number_bytes kind mark numbers) out out₂ (2 + 8 * length numbers)
+unfolding number_bytes
+numbers-put {kind} {mark} {numbers} {out} {out₁} {out₂} a f k =
     record {
-      room = w.room;
-      so_far = omega arith;
-      long = rw e (length-set out' (6 + i) (get_or text i 0) ∙ w.long);
-      held = rw (e, w.held, add-one i) (paste-suc out 6 text i 0 (omega (arith, w.room)) h);
+      size = sym (omega (arith, length_fields numbers));
+      fits = a;
+      held = k.held ∙ (rw (f, drop-behind (kind ∷ mark ∷ []) out 2 (8 * length numbers) refl));
     }
-
-pub copied : {text out out' : List ℕ} {i : ℕ} → Copying text out out' i → length text ≤ i → Copied text out out'
-copied {text} {out} {out'} {i} w h = let e : i ≡ length text = omega (arith, w.so_far) in record { held = rw (← e) w.held }
 
 -- What the writing of a byte string asks.
 pub record TextAsks (out text : List ℕ) : Type 0 where
   pub room : 6 + length text ≤ length out
   pub short : length text < 2 ^ 32
 
+-- The kind, the mark, the length and the bytes.
 pub text-put : {kind mark : ℕ} {text out out₀ out₁ out₂ : List ℕ} → TextAsks out text
     → out₀ ≡ kind ∷ mark ∷ drop 2 out
     → out₁ ≡ put 4 out₀ 2 (length text)
-    → Copied text out₁ out₂
+    → out₂ ≡ take 6 out₁ ++ text ++ drop (6 + length text) out₁
     → Put (text_bytes kind mark text) out out₂ (6 + length text)
 unfolding text_bytes bytes_of
 text-put {kind} {mark} {text} {out} {out₀} {out₁} {out₂} a e₀ e k =
@@ -84,5 +124,5 @@ text-put {kind} {mark} {text} {out} {out₀} {out₁} {out₂} a e₀ e k =
     record {
       size = sym (omega (arith, length-append (bytes_of 4 n) text));
       fits = a.room;
-      held = k.held ∙ (rw (f, take-length text, drop-behind front out 6 n refl));
+      held = k ∙ (rw (f, drop-behind front out 6 n refl));
     }

@@ -1,15 +1,14 @@
 -- The body that the bytes of a step's fields are.
-use Rattle.std.specs.Prelude.{if◌then◌else◌, ◌≡◌, refl, Bool, true, false, List, [], ◌∷◌, ℕ, zero, suc, ◌+◌, ◌*◌, ◌^◌, ◌≤◌, ◌<◌, T, eqb, leb, length, get_or}
-use Rattle.std.proofs.Common.{sym, ap, ◌∙◌, arith, eq-eqb, eqb-true, le-ltb, eqb→eq}
+use Rattle.std.specs.Prelude.{if◌then◌else◌, ◌≡◌, refl, Bool, true, false, List, [], ◌∷◌, ℕ, zero, suc, ◌+◌, ◌*◌, ◌^◌, ◌<◌, eqb, length, get_or}
+use Rattle.std.proofs.Common.{sym, ap, ◌∙◌, arith, eq-eqb, eqb-true, le-ltb}
 use Rattle.std.proofs.Math.Option.{Option, none, some}
 use Rattle.std.proofs.lemmas.Bool.{eqb-false}
 use Rattle.machine.specs.Step.{Body, Takes, Form, takes_numbers, takes_bytes, Kind, kinds, fill}
 use Rattle.machine.specs.Bytes.{numbers_at, decode_form, decode_body, marking, decode}
 use Rattle.machine.proofs.BytesLaws.{length_fields, fields_back, bytes-form}
 use Rattle.machine.specs.Parse.{fields_in, bytes_in, fill_in, body_in}
-use Rattle.parse.specs.Letters.{and_left, and_right}
-use Rattle.parse.specs.Kinds.{form_of, body_as}
-use Rattle.parse.specs.Table.{says}
+use Rattle.parse.specs.declared.Fields.TheVariants.{Numbers, Bytes}
+use Rattle.parse.specs.Kinds.{form_of, body_as, IsOfForm}
 use Rattle.parse.specs.Fields.{exactly, fields-below}
 use Rattle.parse.specs.Puts.{number_bytes, text_bytes}
 
@@ -79,15 +78,15 @@ pub record Stepped (o : Option Form) (rest : Option (List ℕ)) (bytes : List �
   pub parsed : body_as o rest ≡ some body
   pub decoded : decode_as o bytes ≡ some body
 
-pub numbers-step : (o : Option Form) (kind mark n : ℕ) (xs : List ℕ) (rest : Option (List ℕ)) → T (says o n) → n ≤ 6
+pub numbers-step : (o : Option Form) (kind mark n : ℕ) (xs : List ℕ) (rest : Option (List ℕ)) → IsOfForm (Numbers n) o
     → exactly n (fields_in rest) ≡ some xs
     → Stepped o rest (number_bytes kind mark xs)
-unfolding says decode_as body_as body_in decode_form fill_in number_bytes
-numbers-step none kind mark n xs rest t l e = absurd t
-numbers-step (some (takes_bytes f)) kind mark n xs rest t l e = absurd (omega (arith, eqb→eq n 7 t))
-numbers-step (some (takes_numbers m f)) kind mark n xs rest t l e =
+unfolding decode_as body_as body_in decode_form fill_in number_bytes
+numbers-step none kind mark n xs rest t e = absurd t
+numbers-step (some (takes_bytes f)) kind mark n xs rest t e = absurd t
+numbers-step (some (takes_numbers m f)) kind mark n xs rest t e =
     let p : (fields_in rest ≡ some xs) × (length xs ≡ n) = exactly-some n (fields_in rest) xs e in
-    let q : length xs ≡ m = p.1 ∙ sym (eqb→eq m n (and_left (eqb m n) (leb n 6) t)) in
+    let q : length xs ≡ m = p.1 ∙ sym t.0 in
     let b : numbers_at m (number_bytes kind mark xs) 2 ≡ xs = rw (← q) (fields_back kind mark xs (fields-below rest xs p.0)) in
     let y : Made m f xs = fill-all m f xs q in
     record {
@@ -96,17 +95,16 @@ numbers-step (some (takes_numbers m f)) kind mark n xs rest t l e =
       decoded = rw (eq-eqb (length (number_bytes kind mark xs)) (2 + 8 * m) (omega (arith, length_fields xs)), b) y.filled;
     }
 
-pub no-numbers-step : (o : Option Form) (n : ℕ) (rest : Option (List ℕ)) → T (says o n) → n ≤ 6 → exactly n (fields_in rest) ≡ none → body_as o rest ≡ none
-unfolding says body_as body_in
-no-numbers-step none n rest t l e = refl
-no-numbers-step (some (takes_bytes f)) n rest t l e = absurd (omega (arith, eqb→eq n 7 t))
-no-numbers-step (some (takes_numbers m f)) n rest t l e =
-    exactly-none m f (fields_in rest) (rw (eqb→eq m n (and_left (eqb m n) (leb n 6) t)) e)
+pub no-numbers-step : (o : Option Form) (n : ℕ) (rest : Option (List ℕ)) → IsOfForm (Numbers n) o → exactly n (fields_in rest) ≡ none → body_as o rest ≡ none
+unfolding body_as body_in
+no-numbers-step none n rest t e = absurd t
+no-numbers-step (some (takes_bytes f)) n rest t e = absurd t
+no-numbers-step (some (takes_numbers m f)) n rest t e = exactly-none m f (fields_in rest) (rw t.0 e)
 
 -- A byte string in its bytes.
-pub text-step : (o : Option Form) (kind mark : ℕ) (text : List ℕ) (rest : Option (List ℕ)) → T (says o 7) → bytes_in rest ≡ text → length text < 2 ^ 32
+pub text-step : (o : Option Form) (kind mark : ℕ) (text : List ℕ) (rest : Option (List ℕ)) → IsOfForm Bytes o → bytes_in rest ≡ text → length text < 2 ^ 32
     → Stepped o rest (text_bytes kind mark text)
-unfolding says decode_as body_as body_in text_bytes
+unfolding decode_as body_as body_in text_bytes
 text-step none kind mark text rest t e h = absurd t
 text-step (some (takes_bytes f)) kind mark text rest t e h = record { body = f text; parsed = rw e; decoded = bytes-form kind mark text f h }
-text-step (some (takes_numbers m f)) kind mark text rest t e h = absurd (and_right (eqb m 7) false t)
+text-step (some (takes_numbers m f)) kind mark text rest t e h = absurd t

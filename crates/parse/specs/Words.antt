@@ -1,123 +1,84 @@
--- The first word of a line as a number, its key.
-use Rattle.std.specs.Prelude.{if◌then◌else◌, ◌≡◌, refl, Bool, true, false, ◌&&◌, List, [], ◌∷◌, ℕ, zero, suc, ◌+◌, ◌*◌, ◌≤◌, ◌<◌, T, eqb, ltb}
-use Rattle.std.proofs.Common.{sym, ap, arith, eq-eqb, ne_eqb, eqb-true, ltb→lt}
-use Rattle.std.proofs.Math.Bool.{and-false}
+-- The first word of a line, and what stands behind it.
+use Rattle.std.specs.Prelude.{if◌then◌else◌, ◌≡◌, refl, Bool, true, false, not, cond, ◌==◌, List, [], ◌∷◌, ℕ, suc, ◌+◌, ◌≤◌, ◌<◌, eqb, ltb, length, take, drop, Some, None, MatchOption, unwrap_or}
+use Rattle.std.specs.Prelude as rust
+use Rattle.std.specs.List.{position, position_or_len}
+use Rattle.std.proofs.Common.{sym, ap, arith, ltb-true, ltb-false}
 use Rattle.std.proofs.Math.Option.{Option, none, some}
-use Rattle.std.proofs.lemmas.Bool.{eqb-false}
-use Rattle.machine.specs.Basics.{same}
-use Rattle.machine.specs.Parse.{first_word}
-use Rattle.parse.specs.Letters.{letter_of, and_left, and_right, letter-is}
+use Rattle.machine.specs.Parse.{first_word, after_space, bytes_in}
+use denote.Ref.{Bor}
 
--- The key of a word: its letters as digits to the base 32, the first the lowest.
-unfoldable pub key : List ℕ → ℕ
-key [] = 0
-key (b ∷ bs) = letter_of b + 32 * key bs
+-- What a slice that there may be holds.
+abbrev pub rest_of : rust.Option (Bor (List ℕ)) → Option (List ℕ)
+rest_of None = none
+rest_of (Some x) = some x.now
 
--- A key with one more letter in front, where it is a letter.
-unfoldable pub letter_before : ℕ → Option ℕ → Option ℕ
-letter_before zero k = none
-letter_before (suc d) none = none
-letter_before (suc d) (some k) = some (suc d + 32 * k)
+-- The place of the first space, or the length.
+abbrev space_in : List ℕ → ℕ
+space_in line = position_or_len (λ (b : ℕ). b == 32) line
 
--- The key of a line's first word, where that is at most n letters and nothing else.
-unfoldable pub key_of : ℕ → List ℕ → Option ℕ
-key_of n [] = some 0
-key_of zero (b ∷ bs) = if eqb b 32 then some 0 else none
-key_of (suc n) (b ∷ bs) = if eqb b 32 then some 0 else letter_before (letter_of b) (key_of n bs)
-
--- Whether there is a key and it is k.
-unfoldable pub is : Option ℕ → ℕ → Bool
-is none k = false
-is (some j) k = eqb j k
-
--- Whether a word is at most n letters.
-unfoldable pub letters : ℕ → List ℕ → Bool
-letters n [] = true
-letters zero (b ∷ bs) = false
-letters (suc n) (b ∷ bs) = ltb 0 (letter_of b) && letters n bs
-
-letter-first : (n b : ℕ) (bs : List ℕ) → T (letters n (b ∷ bs)) → 0 < letter_of b
-unfolding letters
-letter-first zero b bs t = absurd t
-letter-first (suc n) b bs t = ltb→lt 0 (letter_of b) (and_left (ltb 0 (letter_of b)) (letters n bs) t)
-
--- Two equations that hold where a third does, as tests.
-both-eqb : (a b c d e f : ℕ) → (e ≡ f → (a ≡ b) × (c ≡ d)) → (a ≡ b → c ≡ d → e ≡ f) → (eqb a b && eqb c d) ≡ eqb e f
-both-eqb a b c d e f g h = go (eqb a b) (eqb c d) refl refl
+found : (line : List ℕ) → space_in line < length line
+    → (first_word line ≡ take (space_in line) line) × (after_space line ≡ some (drop (suc (space_in line)) line))
+unfolding first_word after_space
+found [] h = absurd (omega arith)
+found (b ∷ bs) h = go (eqb b 32) h (found bs)
   where
-    go : (x y : Bool) → eqb a b ≡ x → eqb c d ≡ y → (x && y) ≡ eqb e f
-    go true true p q = sym (eq-eqb e f (h (eqb-true a b p) (eqb-true c d q)))
-    go true false p q = sym (ne_eqb e f (λ r. eqb-false c d q (g r).1))
-    go false y p q = sym (ne_eqb e f (λ r. eqb-false a b p (g r).0))
+    go : (c : Bool) → cond (not c) (1 + space_in bs) 0 < suc (length bs)
+        → (space_in bs < length bs → (first_word bs ≡ take (space_in bs) bs) × (after_space bs ≡ some (drop (suc (space_in bs)) bs)))
+        → ((if c then [] else b ∷ first_word bs) ≡ take (cond (not c) (1 + space_in bs) 0) (b ∷ bs))
+        × ◌≡◌ {A = Option (List ℕ)} (elim c [ true ↦ some bs | false ↦ after_space bs ]) (some (drop (suc (cond (not c) (1 + space_in bs) 0)) (b ∷ bs)))
+    go true k r = (refl, refl)
+    go false k r =
+        let e : 1 + space_in bs ≡ suc (space_in bs) = omega arith in
+        let q : (first_word bs ≡ take (space_in bs) bs) × (after_space bs ≡ some (drop (suc (space_in bs)) bs)) = r (omega arith) in
+        (rw e (ap (λ (xs : List ℕ). b ∷ xs) q.0), rw e q.1)
 
--- No letter in front of a key gives 0, and it gives a word's key where it is the word's first letter and the key that of the rest.
-before-zero : (d : ℕ) (o : Option ℕ) → is (letter_before d o) 0 ≡ false
-unfolding is letter_before
-before-zero zero o = refl
-before-zero (suc d) none = refl
-before-zero (suc d) (some j) = ne_eqb (suc d + 32 * j) 0 (λ e. omega arith)
-
-before-is : (b c : ℕ) (o : Option ℕ) (k : ℕ) → 0 < letter_of c
-    → (eqb b c && is o k) ≡ is (letter_before (letter_of b) o) (letter_of c + 32 * k)
-unfolding is letter_before
-before-is b c o k h = go (letter_of b) refl o
+missed : (line : List ℕ) → length line ≤ space_in line → (first_word line ≡ line) × (after_space line ≡ none)
+unfolding first_word after_space
+missed [] h = (refl, refl)
+missed (b ∷ bs) h = go (eqb b 32) h (missed bs)
   where
-    go : (d : ℕ) → letter_of b ≡ d → (p : Option ℕ) → (eqb b c && is p k) ≡ is (letter_before d p) (letter_of c + 32 * k)
-    go zero e p = rw (ne_eqb b c (λ q. omega (arith, ap letter_of q)))
-    go (suc d) e none = and-false (eqb b c)
-    go (suc d) e (some j) =
-        let x : (b ≡ letter_of b + 96) × (letter_of b ≤ 26) = letter-is b (omega arith) in
-        let y : (c ≡ letter_of c + 96) × (letter_of c ≤ 26) = letter-is c h in
-        both-eqb b c j k (suc d + 32 * j) (letter_of c + 32 * k) (λ q. (omega arith, omega arith)) (λ p q. omega arith)
+    go : (c : Bool) → suc (length bs) ≤ cond (not c) (1 + space_in bs) 0
+        → (length bs ≤ space_in bs → (first_word bs ≡ bs) × (after_space bs ≡ none))
+        → ((if c then [] else b ∷ first_word bs) ≡ b ∷ bs) × ◌≡◌ {A = Option (List ℕ)} (elim c [ true ↦ some bs | false ↦ after_space bs ]) none
+    go true k r = absurd (omega arith)
+    go false k r = let q : (first_word bs ≡ bs) × (after_space bs ≡ none) = r (omega arith) in (ap (λ (xs : List ℕ). b ∷ xs) q.0, q.1)
 
--- A space ends the word; any other byte is in it.
-pub word_space : (b : ℕ) (bs : List ℕ) → b ≡ 32 → first_word (b ∷ bs) ≡ []
-unfolding first_word
-word_space b bs e = rw (eq-eqb b 32 e)
+-- A line is split at its first space, where there is one.
+pub record SplitAt (line : List ℕ) (i : ℕ) : Type 0 where
+  pub within : i < length line
+  pub word : take i line ≡ first_word line
+  pub rest : after_space line ≡ some (drop (i + 1) line)
 
-pub word_more : (b : ℕ) (bs : List ℕ) → (b ≡ 32 → ⊥) → first_word (b ∷ bs) ≡ b ∷ first_word bs
-unfolding first_word
-word_more b bs e = rw (ne_eqb b 32 e)
+pub record Unsplit (line : List ℕ) : Type 0 where
+  pub word : line ≡ first_word line
+  pub rest : after_space line ≡ none
 
-pub key_space : (n b : ℕ) (bs : List ℕ) → b ≡ 32 → key_of n (b ∷ bs) ≡ some 0
-unfolding key_of
-key_space zero b bs e = rw (eq-eqb b 32 e)
-key_space (suc n) b bs e = rw (eq-eqb b 32 e)
-
-pub key-long : (b : ℕ) (bs : List ℕ) → (b ≡ 32 → ⊥) → key_of 0 (b ∷ bs) ≡ none
-unfolding key_of
-key-long b bs e = rw (ne_eqb b 32 e)
-
-pub key_more : (n b : ℕ) (bs : List ℕ) → (b ≡ 32 → ⊥) → key_of (suc n) (b ∷ bs) ≡ letter_before (letter_of b) (key_of n bs)
-unfolding key_of
-key_more n b bs e = rw (ne_eqb b 32 e)
-
--- A line's first word is a word of at most n letters where it has that word's key.
-empty-is : (n : ℕ) (w : List ℕ) → T (letters n w) → same [] w ≡ is (some 0) (key w)
-unfolding same is key
-empty-is n [] t = refl
-empty-is n (c ∷ cs) t = sym (ne_eqb 0 (letter_of c + 32 * key cs) (λ e. omega (arith, letter-first n c cs t)))
-
-nothing_is : (n : ℕ) (w : List ℕ) → T (letters n w) → same (first_word []) w ≡ is (key_of n []) (key w)
-unfolding first_word key_of
-nothing_is n w t = empty-is n w t
-
-more-is : (n b : ℕ) (bs w : List ℕ) → (b ≡ 32 → ⊥) → T (letters n w)
-    → ((m : ℕ) (v : List ℕ) → T (letters m v) → same (first_word bs) v ≡ is (key_of m bs) (key v))
-    → same (b ∷ first_word bs) w ≡ is (key_of n (b ∷ bs)) (key w)
-unfolding same is key letters
-more-is zero b bs [] e t r = rw (key-long b bs e)
-more-is zero b bs (c ∷ cs) e t r = absurd t
-more-is (suc n) b bs [] e t r = rw (key_more n b bs e) (sym (before-zero (letter_of b) (key_of n bs)))
-more-is (suc n) b bs (c ∷ cs) e t r =
-    rw (key_more n b bs e, r n cs (and_right (ltb 0 (letter_of c)) (letters n cs) t))
-    (before-is b c (key_of n bs) (key cs) (letter-first (suc n) c cs t))
-
-pub word-is : (n : ℕ) (line w : List ℕ) → T (letters n w) → same (first_word line) w ≡ is (key_of n line) (key w)
-word-is n [] w t = nothing_is n w t
-word-is n (b ∷ bs) w t = go (eqb b 32) refl (λ m v s. word-is m bs v s)
+-- What the place of the first space says of a line.
+pub splits : (line : List ℕ) (o : rust.Option ℕ) → o ≡ position (λ (b : ℕ). b == 32) line → MatchOption o (Unsplit line) (SplitAt line)
+splits line o e = rw e (go (ltb (space_in line) (length line)) refl)
   where
-    go : (x : Bool) → eqb b 32 ≡ x → ((m : ℕ) (v : List ℕ) → T (letters m v) → same (first_word bs) v ≡ is (key_of m bs) (key v))
-        → same (first_word (b ∷ bs)) w ≡ is (key_of n (b ∷ bs)) (key w)
-    go true e r = rw (word_space b bs (eqb-true b 32 e), key_space n b bs (eqb-true b 32 e)) (empty-is n w t)
-    go false e r = rw (word_more b bs (eqb-false b 32 e)) (more-is n b bs w (eqb-false b 32 e) t r)
+    go : (c : Bool) → ltb (space_in line) (length line) ≡ c → MatchOption (cond c (Some (space_in line)) None) (Unsplit line) (SplitAt line)
+    go true t =
+        let h : space_in line < length line = ltb-true (space_in line) (length line) t in
+        let q : (first_word line ≡ take (space_in line) line) × (after_space line ≡ some (drop (suc (space_in line)) line)) = found line h in
+        let n : space_in line + 1 ≡ suc (space_in line) = omega arith in
+        record { within = h; word = sym q.0; rest = rw n q.1 }
+    go false t =
+        let q : (first_word line ≡ line) × (after_space line ≡ none) = missed line (ltb-false (space_in line) (length line) t) in
+        record { word = sym q.0; rest = q.1 }
+
+-- What stands behind the first space, nothing where there is none.
+pub rest-bytes : (r : rust.Option (Bor (List ℕ))) (d : Bor (List ℕ)) → d.now ≡ [] → (unwrap_or r d).now ≡ bytes_in (rest_of r)
+unfolding bytes_in
+rest-bytes None d e = e
+rest-bytes (Some x) d e = refl
+
+pub length-rest : (line : List ℕ) → length (bytes_in (after_space line)) ≤ length line
+unfolding bytes_in after_space
+length-rest [] = omega arith
+length-rest (b ∷ bs) = go (eqb b 32) (length-rest bs)
+  where
+    go : (c : Bool) → length (bytes_in (after_space bs)) ≤ length bs
+        → length (bytes_in (elim c [ true ↦ some bs | false ↦ after_space bs ])) ≤ suc (length bs)
+    go true r = omega arith
+    go false r = omega arith

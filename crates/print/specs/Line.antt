@@ -1,5 +1,5 @@
 -- The line of a step.
-use Rattle.std.specs.Prelude.{◌≡◌, refl, List, [], ◌∷◌, ◌++◌, ℕ, ◌+◌, ◌*◌, ◌≤◌, length}
+use Rattle.std.specs.Prelude.{◌≡◌, refl, List, [], ◌∷◌, ◌++◌, ℕ, ◌+◌, ◌*◌, ◌≤◌, length, Result}
 use Rattle.std.proofs.Common.{◌∙◌, append_assoc, zero-add, arith}
 use Rattle.machine.specs.Basics.{ascii}
 use Rattle.machine.specs.Machine.{Machine, asleep}
@@ -12,6 +12,7 @@ use Rattle.state.specs.declared.Sizes.{Sizes}
 use Rattle.holds.specs.Holds.{Holds}
 use Rattle.holds.specs.Did.{machine_in}
 use Rattle.outcome.specs.declared.Reply.{Reply}
+use Rattle.outcome.specs.declared.Refusal.{Refusal}
 use Rattle.outcome.specs.Means.{means}
 use Rattle.outcome.specs.Length.{length_of}
 use Rattle.print.specs.Put.{Room, Put, put_join, put_as}
@@ -80,17 +81,17 @@ line_most z text = 138 + length text + 21 * z.processes
 
 -- The state is well formed, there is room for the line, and the text is at least as long as the message that the answer
 -- tells.
-pub record LineAsks (z : Sizes) (s : List ℕ) (reply : Reply) (text out : List ℕ) (at : ℕ) : Type 0 where
+pub record LineAsks (z : Sizes) (s : List ℕ) (reply : Result Reply Refusal) (text out : List ℕ) (at : ℕ) : Type 0 where
   pub holds : Holds z s 0
   pub room : Room (line_most z text) out at
   pub fits : length_of reply ≤ length text
 
 -- The line of step n stands in out from `at` to r.
-pub record Printed (z : Sizes) (s : List ℕ) (n : ℕ) (reply : Reply) (text out : List ℕ) (at : ℕ) (out' : List ℕ) (r : ℕ) : Type 0 where
+pub record Printed (z : Sizes) (s : List ℕ) (n : ℕ) (reply : Result Reply Refusal) (text out : List ℕ) (at : ℕ) (out' : List ℕ) (r : ℕ) : Type 0 where
   pub put : Put (line_most z text) out at (print_line n (means reply text text) (machine_in z s)) out' r
 
 pub line-put
-    : {z : Sizes} {s : List ℕ} {n : ℕ} {reply : Reply} {text out : List ℕ} {at : ℕ} {out₁ out₂ out₃ out₄ out₅ : List ℕ} {r₁ r₂ r₃ r₄ r₅ : ℕ}
+    : {z : Sizes} {s : List ℕ} {n : ℕ} {reply : Result Reply Refusal} {text out : List ℕ} {at : ℕ} {out₁ out₂ out₃ out₄ out₅ : List ℕ} {r₁ r₂ r₃ r₄ r₅ : ℕ}
     → Put 20 out at (decimal n) out₁ r₁
     → Put 1 out₁ r₁ (59 ∷ []) out₂ r₂
     → Replied out₂ r₂ reply text out₃ r₃

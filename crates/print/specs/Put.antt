@@ -1,8 +1,7 @@
 -- Bytes put into a lent buffer, and the loop that puts a text.
-use Rattle.std.specs.Prelude.{◌≡◌, refl, List, [], ◌∷◌, ◌++◌, ℕ, ◌+◌, ◌≤◌, ◌<◌, length, take, drop, set, get_or}
-use Rattle.std.proofs.Common.{sym, ap, ◌∙◌, append_assoc, add-one, arith, length-append, length-drop, length-set, length-take-le, take_at, drop_at, drop-drop}
-use Rattle.std.proofs.Math.Seq.{take-length, paste, paste-zero, paste-suc}
-use Rattle.std.proofs.lemmas.List.{set_split}
+use Rattle.std.specs.Prelude.{◌≡◌, refl, List, [], ◌++◌, ℕ, ◌+◌, ◌≤◌, length, take, drop}
+use Rattle.std.proofs.Common.{sym, ap, ◌∙◌, append_assoc, arith, length-append, length-drop, length-take-le, take_at, drop_at, drop-drop}
+use Rattle.std.proofs.Math.Seq.{take-length, paste, paste-zero}
 
 -- From `at` on there is room for so many bytes.
 abbrev pub Room : ℕ → List ℕ → ℕ → Type 0
@@ -80,40 +79,7 @@ put_as p e h =
 pub put-none : {out : List ℕ} {at : ℕ} → at ≤ length out → Put 0 out at [] out at
 put-none {out} {at} h = put_of (paste-zero out at []) (omega arith) (omega arith) (omega arith)
 
--- A byte.
-pub put_one : {out out' : List ℕ} {at b : ℕ} → Room 1 out at → out' ≡ set out at b → Put 1 out at (b ∷ []) out' (at + 1)
-put_one {out} {out'} {at} {b} h e =
-    put_of (e ∙ set_split out at b (omega arith) ∙ rw (add-one at, append_assoc)) refl (omega arith) (omega arith)
-
--- A text is being put: its first i bytes stand there.
-pub record Copying (out : List ℕ) (at : ℕ) (text out' : List ℕ) (i : ℕ) : Type 0 where
-  pub within : i ≤ length text
-  pub bytes : out' ≡ paste out at text i
-  pub long : length out' ≡ length out
-
-pub copy_start : {out : List ℕ} {at : ℕ} {text : List ℕ} → Copying out at text out 0
-copy_start {out} {at} {text} = record { within = omega arith; bytes = paste-zero out at text; long = refl }
-
-pub copy_more
-    : {out : List ℕ} {at : ℕ} {text out₁ out₂ : List ℕ} {i : ℕ}
-    → Room (length text) out at
-    → Copying out at text out₁ i
-    → i < length text
-    → out₂ ≡ set out₁ (at + i) (get_or text i 0)
-    → Copying out at text out₂ (i + 1)
-copy_more {out} {at} {text} {out₁} {out₂} {i} room w h e =
-    record {
-      within = omega arith;
-      bytes = rw (add-one i, e, w.bytes) (paste-suc out at text i 0 (omega arith) h);
-      long = rw e (length-set out₁ (at + i) (get_or text i 0) ∙ w.long);
-    }
-
-pub copy-end
-    : {out : List ℕ} {at : ℕ} {text out₁ : List ℕ} {i : ℕ}
-    → Room (length text) out at
-    → Copying out at text out₁ i
-    → length text ≤ i
-    → Put (length text) out at text out₁ (at + length text)
-copy-end {out} {at} {text} {out₁} {i} room w h =
-    let q : i ≡ length text = omega (arith, w.within) in
-    put_of (w.bytes ∙ rw (q, take-length text)) refl (omega arith) room
+-- A text.
+pub put_text : {out : List ℕ} {at : ℕ} {text out' : List ℕ} → Room (length text) out at → out' ≡ paste out at text (length text)
+    → Put (length text) out at text out' (at + length text)
+put_text {out} {at} {text} room e = put_of (e ∙ rw (take-length text)) refl (omega arith) room

@@ -1,8 +1,9 @@
 -- Each case of what the step bytes ask.
-use Rattle.std.specs.Prelude.{◌≡◌, Bool, List, ℕ, ◌+◌, ◌-◌, ◌≤◌, take, drop}
+use Rattle.std.specs.Prelude.{◌≡◌, Bool, List, ℕ, ◌+◌, ◌-◌, ◌≤◌, take, drop, Option, Some, None, Result, Err}
 use Rattle.std.proofs.Math.Path.{refl, ap}
 use Rattle.std.proofs.Common.{sym, subst, ◌∙◌, arith}
-use Rattle.std.proofs.Math.Option.{Option, some}
+use Rattle.std.proofs.Math.Option as math
+use Rattle.std.proofs.Math.Option.{some}
 use Rattle.std.proofs.Math.ListN.{length}
 use Rattle.machine.specs.Bytes.{decode}
 use Rattle.machine.specs.Step.{Step, Body, start, rfork, name, sched, yield, sleep, wakeup, qlock, canqlock, qunlock, cond, clock, tdel, intr, due, exit, wait}
@@ -10,12 +11,13 @@ use Rattle.state.specs.declared.Sizes.{Sizes}
 use Rattle.decode.specs.declared.TsleepFields.{TsleepFields}
 use Rattle.decode.specs.declared.TaddFields.{TaddFields}
 use Rattle.decode.specs.declared.Call.{Call}
-use Rattle.decode.specs.declared.Call.TheVariants.{None, Start, Rfork, Name, Sched, Yield, Sleep, Tsleep, Wakeup, Qlock, Canqlock, Qunlock, Cond, Clock, Tadd, Tdel, Intr, Due, Exit, Wait}
+use Rattle.decode.specs.declared.Call.TheVariants.{Start, Rfork, Name, Sched, Yield, Sleep, Tsleep, Wakeup, Qlock, Canqlock, Qunlock, Cond, Clock, Tadd, Tdel, Intr, Due, Exit, Wait}
 use Rattle.decode.specs.declared.Decoded.{Decoded}
-use Rattle.decode.specs.Means.{tsleep_of, tadd_of, body_of, marked_as, step_of, Ranged}
+use Rattle.decode.specs.Means.{tsleep_of, tadd_of, body_of, step_of, Ranged}
 use Rattle.decode.specs.Decodes.{Decodes}
 use Rattle.outcome.specs.declared.Reply.{Reply}
-use Rattle.outcome.specs.declared.Reply.TheVariants.{Refused}
+use Rattle.outcome.specs.declared.Refusal.{Refusal}
+use Rattle.outcome.specs.declared.Refusal.TheVariants.{NoSuchStep}
 use Rattle.outcome.specs.Stepped.{Well}
 use Rattle.outcome.specs.Took.{Took}
 use Rattle.outcome.specs.Refusals.{step}
@@ -34,17 +36,17 @@ pub record CallAsks (z : Sizes) (s : List ℕ) (c : Call) (b m : List ℕ) : Typ
   pub room : 127 ≤ length m
 
 -- It is taken as the step that it stands for.
-pub record CallTook (z : Sizes) (s s' : List ℕ) (k : Bool) (c : Call) (b m m' : List ℕ) (r : Reply) : Type 0 where
-  pub taken : Taken z s s' (marked_as k (body_of c b)) m m' r
+pub record CallTook (z : Sizes) (s s' : List ℕ) (k : Bool) (c : Call) (b m m' : List ℕ) (r : Result Reply Refusal) : Type 0 where
+  pub taken : Taken z s s' (some (step k (body_of c b))) m m' r
 
 -- A call with a known case.
 as_step
-    : {z : Sizes} {s s' : List ℕ} {k : Bool} {c : Call} {b m m' : List ℕ} {r : Reply} (y : Body)
-    → body_of c b ≡ some y
+    : {z : Sizes} {s s' : List ℕ} {k : Bool} {c : Call} {b m m' : List ℕ} {r : Result Reply Refusal} (y : Body)
+    → body_of c b ≡ y
     → Taken z s s' (some (step k y)) m m' r
     → CallTook z s s' k c b m m' r
 as_step {z} {s} {s'} {k} {c} {b} {m} {m'} {r} y e t =
-    record { taken = subst (λ (o : Option Body). Taken z s s' (marked_as k o) m m' r) (sym e) t }
+    record { taken = subst (λ (x : Body). Taken z s s' (some (step k x)) m m' r) (sym e) t }
 
 -- A byte string goes to the end of the bytes.
 name_fits : {c : Call} (b : List ℕ) {n : ℕ} → Ranged c b → c ≡ Name n → 6 + n ≡ length b
@@ -61,7 +63,7 @@ name-long {b = b} a e = omega (arith, name_fits b a.ranged e)
 pub exit-long : {z : Sizes} {s : List ℕ} {c : Call} {b m : List ℕ} {n : ℕ} → CallAsks z s c b m → c ≡ Exit n → 6 ≤ length b
 exit-long {b = b} a e = omega (arith, exit-fits b a.ranged e)
 
-module _ {z : Sizes} {s s' : List ℕ} {k : Bool} {c : Call} {b m : List ℕ} {r : Reply} (a : CallAsks z s c b m) where
+module _ {z : Sizes} {s s' : List ℕ} {k : Bool} {c : Call} {b m : List ℕ} {r : Result Reply Refusal} (a : CallAsks z s c b m) where
   pub call-start : {how : ℕ} → c ≡ Start how → Plain z s s' k (start how) r → CallTook z s s' k c b m m r
   unfolding body_of tells
   call-start {how} e t = as_step (start how) (ap (λ (d : Call). body_of d b) e) (taken-plain a.room refl t)
@@ -128,7 +130,7 @@ module _ {z : Sizes} {s s' : List ℕ} {k : Bool} {c : Call} {b m : List ℕ} {r
   call-name {n} e t =
       let h : n ≡ length b - 6 = omega (arith, name_fits b a.ranged e) in
       as_step (name (take (length b - 6) (drop 6 b)))
-      (ap (λ (d : Call). body_of d b) e ∙ ap (λ (j : ℕ). some (name (take j (drop 6 b)))) h)
+      (ap (λ (d : Call). body_of d b) e ∙ ap (λ (j : ℕ). name (take j (drop 6 b))) h)
       (taken-plain a.room refl t)
 
   pub call-exit
@@ -137,7 +139,7 @@ module _ {z : Sizes} {s s' : List ℕ} {k : Bool} {c : Call} {b m : List ℕ} {r
   call-exit {n} e t =
       let h : n ≡ length b - 6 = omega (arith, exit-fits b a.ranged e) in
       as_step (exit (take (length b - 6) (drop 6 b)))
-      (ap (λ (d : Call). body_of d b) e ∙ ap (λ (j : ℕ). some (exit (take j (drop 6 b)))) h)
+      (ap (λ (d : Call). body_of d b) e ∙ ap (λ (j : ℕ). exit (take j (drop 6 b))) h)
       (taken-plain a.room refl (record { stepped = t.stepped }))
 
   pub call-sched : {m' : List ℕ} → c ≡ Sched → SchedTook z s s' k m m' r → CallTook z s s' k c b m m' r
@@ -148,22 +150,24 @@ module _ {z : Sizes} {s s' : List ℕ} {k : Bool} {c : Call} {b m : List ℕ} {r
   unfolding body_of
   call-wait e t = as_step wait (ap (λ (d : Call). body_of d b) e) (taken-step a.room t.stepped t.long t.buffer)
 
--- What is no step.
-pub call_none
-    : {z : Sizes} {s : List ℕ} {k : Bool} {c : Call} {b m : List ℕ} → CallAsks z s c b m → c ≡ None → CallTook z s s k c b m m (Refused 2)
-unfolding body_of
-call_none {z} {s} {k} {c} {b} {m} a e =
-    record { taken = subst (λ (d : Call). Taken z s s (marked_as k (body_of d b)) m m (Refused 2)) (sym e) (taken_none a.well) }
-
 -- The bytes are what was read from them.
 pub take-calls
-    : {z : Sizes} {s b m : List ℕ} {d : Decoded} → Well z s → Decodes b d → 127 ≤ length m → CallAsks z s d.call b m
-take-calls w h l = record { well = w; ranged = h.ranged; room = l }
+    : {z : Sizes} {s b m : List ℕ} {o : Option Decoded} {d : Decoded} → Well z s → Decodes b o → o ≡ Some d → 127 ≤ length m → CallAsks z s d.call b m
+take-calls {b = b} w h e l = record { well = w; ranged = (subst (Decodes b) e h).ranged; room = l }
 
 pub take-took
-    : {z : Sizes} {s s' b m m' : List ℕ} {d : Decoded} {r : Reply}
-    → Decodes b d
+    : {z : Sizes} {s s' b m m' : List ℕ} {o : Option Decoded} {d : Decoded} {r : Result Reply Refusal}
+    → Decodes b o
+    → o ≡ Some d
     → CallTook z s s' d.marked d.call b m m' r
     → Taken z s s' (decode b) m m' r
 unfolding step_of
-take-took {z} {s} {s'} {b} {m} {m'} {d} {r} h t = subst (λ (o : Option Step). Taken z s s' o m m' r) h.step t.taken
+take-took {z} {s} {s'} {b} {m} {m'} {o} {d} {r} h e t =
+    subst (λ (x : math.Option Step). Taken z s s' x m m' r) (subst (Decodes b) e h).step t.taken
+
+-- What is no step.
+pub take-none
+    : {z : Sizes} {s b m : List ℕ} {o : Option Decoded} → Well z s → Decodes b o → o ≡ None → Taken z s s (decode b) m m (Err NoSuchStep)
+unfolding step_of
+take-none {z} {s} {b} {m} w h e =
+    subst (λ (x : math.Option Step). Taken z s s x m m (Err NoSuchStep)) (subst (Decodes b) e h).step (taken_none w)

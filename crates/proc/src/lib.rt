@@ -1,212 +1,251 @@
 // Any one of the nineteen steps, on a state that is known to be well formed.
 #![tactic(auto)]
 
+ghost use Rattle.std.specs.Prelude.{IfOk, IfErr};
 ghost use Rattle.machine.specs.Bytes.{decode};
 ghost use Rattle.machine.specs.Step.{start, rfork, name, sleep, wakeup, qlock, canqlock, qunlock, cond, tdel};
 ghost use Rattle.decode.specs.Means.{tsleep_of, tadd_of};
+ghost use Rattle.state.specs.Lent.{Same};
 ghost use Rattle.outcome.specs.Stepped.{Well};
+ghost use Rattle.proc.specs.Ranges.{Within, Beyond, IsKernel, NotKernel, Lasting};
 ghost use Rattle.proc.specs.Plain.{Plain};
 ghost use Rattle.proc.specs.Arms.{CallAsks, CallTook};
 ghost use Rattle.proc.specs.Taken.{Taken};
 
 use clock::Duration;
 use decode::{Call, TaddFields, TsleepFields};
-use outcome::Reply;
-use state::{Index, Sizes};
+use outcome::{Refusal, Reply};
+use proc_start::Making;
+use proc_timer::Kind;
+use state::{Index, Sizes, State};
 
 // The shortest message buffer that a step takes.
 const SHORTEST: usize = 127;
 
-// Nanoseconds in a second.
-const SECOND: u64 = 1_000_000_000;
+// The number that a field gives to one of `n`.
+fn below(field: u64, n: u16) -> Result<Index, Refusal>
+    ensures ok { IfOk result (Within n field) }
+    ensures err { IfErr result (Beyond n field) }
+{
+    if field < n as u64 {
+        Ok(field as Index)
+    } else {
+        Err(Refusal::NoSuchStep)
+    }
+}
+
+// The same of a kernel timer other than timer 0.
+fn kernel_timer(field: u64, n: u16) -> Result<Index, Refusal>
+    ensures ok { IfOk result (IsKernel n field) }
+    ensures err { IfErr result (NotKernel n field) }
+{
+    if field < 1 {
+        return Err(Refusal::NoSuchStep);
+    }
+    below(field, n)
+}
+
+// The number of a condition.
+fn condition_of(field: u64) -> Result<u8, Refusal>
+    ensures ok { IfOk result (Within 256 field) }
+    ensures err { IfErr result (Beyond 256 field) }
+{
+    if field < 256 {
+        Ok(field as u8)
+    } else {
+        Err(Refusal::NoSuchStep)
+    }
+}
+
+// A length of time, whose nanoseconds are below a whole second.
+fn duration_of(secs: u64, nanos: u64) -> Result<Duration, Refusal>
+    ensures ok { IfOk result (Lasting secs nanos) }
+    ensures err { IfErr result (Beyond 1000000000 nanos) }
+{
+    let Ok(nanos) = u32::try_from(nanos) else {
+        return Err(Refusal::NoSuchStep);
+    };
+    let d = Duration { secs, nanos };
+    if d.valid() {
+        Ok(d)
+    } else {
+        Err(Refusal::NoSuchStep)
+    }
+}
 
 // newproc and ready.
-fn start(s: &mut [u8], z: Sizes, in_interrupt: bool, how: u64) -> Reply
-    requires { Well z s.old }
-    ensures { Plain z s.old s.new in_interrupt (start how) result }
+fn start(s: &mut State, in_interrupt: bool, how: u64) -> Result<Reply, Refusal>
+    requires { Well s.old.sizes s.old.bytes.now }
+    ensures same { Same s.old s.new }
+    ensures done { Plain s.old.sizes s.old.bytes.now s.new.bytes.now in_interrupt (start how) result }
 {
     if how > 2 {
-        return Reply::Refused { number: 2 };
+        return Err(Refusal::NoSuchStep);
     }
-    proc_start::start(s, z, in_interrupt, how as u8)
+    let how = Making::try_from(how)?;
+    proc_start::start(s, in_interrupt, how)
 }
 
 // fork(2).
-fn rfork(s: &mut [u8], z: Sizes, in_interrupt: bool, flags: u64, how: u64) -> Reply
-    requires { Well z s.old }
-    ensures { Plain z s.old s.new in_interrupt (rfork flags how) result }
+fn rfork(s: &mut State, in_interrupt: bool, flags: u64, how: u64) -> Result<Reply, Refusal>
+    requires { Well s.old.sizes s.old.bytes.now }
+    ensures same { Same s.old s.new }
+    ensures done { Plain s.old.sizes s.old.bytes.now s.new.bytes.now in_interrupt (rfork flags how) result }
 {
     if flags > 4_294_967_295 {
-        return Reply::Refused { number: 2 };
+        return Err(Refusal::NoSuchStep);
     }
-    if how > 3 {
-        return Reply::Refused { number: 2 };
-    }
-    proc_fork::rfork(s, z, in_interrupt, flags as u32, how as u8)
+    let how = Making::try_from(how)?;
+    proc_fork::rfork(s, in_interrupt, flags as u32, how)
 }
 
 // The running process gets a name.
-fn name(s: &mut [u8], z: Sizes, in_interrupt: bool, bytes: &[u8]) -> Reply
-    requires { Well z s.old }
-    ensures { Plain z s.old s.new in_interrupt (name bytes.now) result }
+fn name(s: &mut State, in_interrupt: bool, bytes: &[u8]) -> Result<Reply, Refusal>
+    requires { Well s.old.sizes s.old.bytes.now }
+    ensures same { Same s.old s.new }
+    ensures done { Plain s.old.sizes s.old.bytes.now s.new.bytes.now in_interrupt (name bytes.now) result }
 {
     if bytes.len() > 28 {
-        return Reply::Refused { number: 2 };
+        return Err(Refusal::NoSuchStep);
     }
-    proc_fork::name(s, z, in_interrupt, bytes)
+    proc_fork::name(s, in_interrupt, bytes)
 }
 
 // The running process sleeps on a Rendez while a condition is false.
-fn sleep(s: &mut [u8], z: Sizes, in_interrupt: bool, rendez: u64, condition: u64) -> Reply
-    requires { Well z s.old }
-    ensures { Plain z s.old s.new in_interrupt (sleep rendez condition) result }
+fn sleep(s: &mut State, in_interrupt: bool, rendez: u64, condition: u64) -> Result<Reply, Refusal>
+    requires { Well s.old.sizes s.old.bytes.now }
+    ensures same { Same s.old s.new }
+    ensures done { Plain s.old.sizes s.old.bytes.now s.new.bytes.now in_interrupt (sleep rendez condition) result }
 {
-    if rendez >= z.rendez as u64 {
-        return Reply::Refused { number: 2 };
-    }
-    if condition > 255 {
-        return Reply::Refused { number: 2 };
-    }
-    proc_sleep::sleep(s, z, in_interrupt, rendez as Index, condition as u8)
+    let r = below(rendez, s.sizes.rendez)?;
+    let c = condition_of(condition)?;
+    proc_sleep::sleep(s, in_interrupt, r, c)
 }
 
 // The same, and no longer than a duration.
-fn tsleep(s: &mut [u8], z: Sizes, in_interrupt: bool, asked: TsleepFields) -> Reply
-    requires { Well z s.old }
-    ensures { Plain z s.old s.new in_interrupt (tsleep_of asked) result }
+fn tsleep(s: &mut State, in_interrupt: bool, asked: TsleepFields) -> Result<Reply, Refusal>
+    requires { Well s.old.sizes s.old.bytes.now }
+    ensures same { Same s.old s.new }
+    ensures done { Plain s.old.sizes s.old.bytes.now s.new.bytes.now in_interrupt (tsleep_of asked) result }
 {
-    if asked.rendez >= z.rendez as u64 {
-        return Reply::Refused { number: 2 };
-    }
-    if asked.condition > 255 {
-        return Reply::Refused { number: 2 };
-    }
-    if asked.nanoseconds >= SECOND {
-        return Reply::Refused { number: 2 };
-    }
-    let wait = Duration {
-        secs: asked.seconds,
-        nanos: asked.nanoseconds as u32,
-    };
-    proc_timer::tsleep(
-        s,
-        z,
-        in_interrupt,
-        asked.rendez as Index,
-        asked.condition as u8,
-        wait,
-        asked.reading,
-    )
+    let r = below(asked.rendez, s.sizes.rendez)?;
+    let c = condition_of(asked.condition)?;
+    let d = duration_of(asked.seconds, asked.nanoseconds)?;
+    proc_timer::tsleep(s, in_interrupt, r, c, d, asked.reading)
 }
 
 // Wakes whoever sleeps on a Rendez.
-fn wakeup(s: &mut [u8], z: Sizes, in_interrupt: bool, rendez: u64) -> Reply
-    requires { Well z s.old }
-    ensures { Plain z s.old s.new in_interrupt (wakeup rendez) result }
+fn wakeup(s: &mut State, in_interrupt: bool, rendez: u64) -> Result<Reply, Refusal>
+    requires { Well s.old.sizes s.old.bytes.now }
+    ensures same { Same s.old s.new }
+    ensures done { Plain s.old.sizes s.old.bytes.now s.new.bytes.now in_interrupt (wakeup rendez) result }
 {
-    if rendez >= z.rendez as u64 {
-        return Reply::Refused { number: 2 };
-    }
-    proc_wake::wakeup(s, z, rendez as Index)
+    let r = below(rendez, s.sizes.rendez)?;
+    Ok(proc_wake::wakeup(s, r))
 }
 
 // Takes a lock, or queues the running process for it.
-fn qlock(s: &mut [u8], z: Sizes, in_interrupt: bool, lock: u64) -> Reply
-    requires { Well z s.old }
-    ensures { Plain z s.old s.new in_interrupt (qlock lock) result }
+fn qlock(s: &mut State, in_interrupt: bool, lock: u64) -> Result<Reply, Refusal>
+    requires { Well s.old.sizes s.old.bytes.now }
+    ensures same { Same s.old s.new }
+    ensures done { Plain s.old.sizes s.old.bytes.now s.new.bytes.now in_interrupt (qlock lock) result }
 {
-    if lock >= z.locks as u64 {
-        return Reply::Refused { number: 2 };
-    }
-    proc_sleep::qlock(s, z, in_interrupt, lock as Index)
+    let q = below(lock, s.sizes.locks)?;
+    proc_sleep::qlock(s, in_interrupt, q)
 }
 
 // Takes a lock where it is free.
-fn canqlock(s: &mut [u8], z: Sizes, in_interrupt: bool, lock: u64) -> Reply
-    requires { Well z s.old }
-    ensures { Plain z s.old s.new in_interrupt (canqlock lock) result }
+fn canqlock(s: &mut State, in_interrupt: bool, lock: u64) -> Result<Reply, Refusal>
+    requires { Well s.old.sizes s.old.bytes.now }
+    ensures same { Same s.old s.new }
+    ensures done { Plain s.old.sizes s.old.bytes.now s.new.bytes.now in_interrupt (canqlock lock) result }
 {
-    if lock >= z.locks as u64 {
-        return Reply::Refused { number: 2 };
-    }
-    proc_wake::canqlock(s, z, lock as Index)
+    let q = below(lock, s.sizes.locks)?;
+    Ok(proc_wake::canqlock(s, q))
 }
 
 // Hands a lock over to its first waiter, or frees it.
-fn qunlock(s: &mut [u8], z: Sizes, in_interrupt: bool, lock: u64) -> Reply
-    requires { Well z s.old }
-    ensures { Plain z s.old s.new in_interrupt (qunlock lock) result }
+fn qunlock(s: &mut State, in_interrupt: bool, lock: u64) -> Result<Reply, Refusal>
+    requires { Well s.old.sizes s.old.bytes.now }
+    ensures same { Same s.old s.new }
+    ensures done { Plain s.old.sizes s.old.bytes.now s.new.bytes.now in_interrupt (qunlock lock) result }
 {
-    if lock >= z.locks as u64 {
-        return Reply::Refused { number: 2 };
-    }
-    proc_wake::qunlock(s, z, lock as Index)
+    let q = below(lock, s.sizes.locks)?;
+    proc_wake::qunlock(s, q)
 }
 
 // Sets a condition.
-fn cond(s: &mut [u8], z: Sizes, in_interrupt: bool, condition: u64, value: u64) -> Reply
-    requires { Well z s.old }
-    ensures { Plain z s.old s.new in_interrupt (cond condition value) result }
+fn cond(s: &mut State, in_interrupt: bool, condition: u64, value: u64) -> Result<Reply, Refusal>
+    requires { Well s.old.sizes s.old.bytes.now }
+    ensures same { Same s.old s.new }
+    ensures done { Plain s.old.sizes s.old.bytes.now s.new.bytes.now in_interrupt (cond condition value) result }
 {
-    if condition > 255 {
-        return Reply::Refused { number: 2 };
-    }
+    let c = condition_of(condition)?;
     if value > 1 {
-        return Reply::Refused { number: 2 };
+        return Err(Refusal::NoSuchStep);
     }
-    proc_wake::cond(s, z, condition as u8, value == 1)
+    Ok(proc_wake::cond(s, c, value == 1))
 }
 
 // Adds a kernel timer.
-fn tadd(s: &mut [u8], z: Sizes, in_interrupt: bool, asked: TaddFields) -> Reply
-    requires { Well z s.old }
-    ensures { Plain z s.old s.new in_interrupt (tadd_of asked) result }
+fn tadd(s: &mut State, in_interrupt: bool, asked: TaddFields) -> Result<Reply, Refusal>
+    requires { Well s.old.sizes s.old.bytes.now }
+    ensures same { Same s.old s.new }
+    ensures done { Plain s.old.sizes s.old.bytes.now s.new.bytes.now in_interrupt (tadd_of asked) result }
 {
-    if asked.timer < 1 {
-        return Reply::Refused { number: 2 };
-    }
-    if asked.timer >= z.timers as u64 {
-        return Reply::Refused { number: 2 };
-    }
-    if asked.kind > 1 {
-        return Reply::Refused { number: 2 };
-    }
-    if asked.nanoseconds >= SECOND {
-        return Reply::Refused { number: 2 };
-    }
-    if asked.rendez >= z.rendez as u64 {
-        return Reply::Refused { number: 2 };
-    }
-    let wait = Duration {
-        secs: asked.seconds,
-        nanos: asked.nanoseconds as u32,
-    };
-    proc_timer::tadd(
-        s,
-        z,
-        asked.timer as Index,
-        asked.kind as u8,
-        wait,
-        asked.rendez as Index,
-        asked.reading,
-    )
+    let t = kernel_timer(asked.timer, s.sizes.timers)?;
+    let kind = Kind::try_from(asked.kind)?;
+    let d = duration_of(asked.seconds, asked.nanoseconds)?;
+    let r = below(asked.rendez, s.sizes.rendez)?;
+    proc_timer::tadd(s, t, kind, d, r, asked.reading)
 }
 
 // Takes a kernel timer off the queue.
-fn tdel(s: &mut [u8], z: Sizes, in_interrupt: bool, timer: u64) -> Reply
-    requires { Well z s.old }
-    ensures { Plain z s.old s.new in_interrupt (tdel timer) result }
+fn tdel(s: &mut State, in_interrupt: bool, timer: u64) -> Result<Reply, Refusal>
+    requires { Well s.old.sizes s.old.bytes.now }
+    ensures same { Same s.old s.new }
+    ensures done { Plain s.old.sizes s.old.bytes.now s.new.bytes.now in_interrupt (tdel timer) result }
 {
-    if timer < 1 {
-        return Reply::Refused { number: 2 };
-    }
-    if timer >= z.timers as u64 {
-        return Reply::Refused { number: 2 };
-    }
-    proc_timer::tdel(s, z, timer as Index)
+    let t = kernel_timer(timer, s.sizes.timers)?;
+    Ok(proc_timer::tdel(s, t))
 }
 
-// What the step bytes `b` were found to ask.
+// The step that the bytes `b` were found to ask, on a state that is lent whole.
+fn take_on(
+    s: &mut State,
+    in_interrupt: bool,
+    call: Call,
+    b: &[u8],
+    message: &mut [u8],
+) -> Result<Reply, Refusal>
+    requires { CallAsks s.old.sizes s.old.bytes.now call b.now message.old }
+    ensures same { Same s.old s.new }
+    ensures done { CallTook s.old.sizes s.old.bytes.now s.new.bytes.now in_interrupt call b.now message.old message.new result }
+{
+    match call {
+        Call::Start { how } => start(s, in_interrupt, how),
+        Call::Rfork { flags, how } => rfork(s, in_interrupt, flags, how),
+        Call::Name { length: _ } => name(s, in_interrupt, &b[6..]),
+        Call::Sched => proc_sched::sched(s, in_interrupt, message),
+        Call::Yield => proc_sleep::yield_now(s, in_interrupt),
+        Call::Sleep { rendez, condition } => sleep(s, in_interrupt, rendez, condition),
+        Call::Tsleep { asked } => tsleep(s, in_interrupt, asked),
+        Call::Wakeup { rendez } => wakeup(s, in_interrupt, rendez),
+        Call::Qlock { lock } => qlock(s, in_interrupt, lock),
+        Call::Canqlock { lock } => canqlock(s, in_interrupt, lock),
+        Call::Qunlock { lock } => qunlock(s, in_interrupt, lock),
+        Call::Cond { condition, value } => cond(s, in_interrupt, condition, value),
+        Call::Clock { reading } => proc_timer::clock(s, reading),
+        Call::Tadd { asked } => tadd(s, in_interrupt, asked),
+        Call::Tdel { timer } => tdel(s, in_interrupt, timer),
+        Call::Intr { reading } => proc_intr::intr(s, reading),
+        Call::Due => Ok(proc_wake::due(&s.view())),
+        Call::Exit { length: _ } => proc_exit::exit(s, in_interrupt, &b[6..]),
+        Call::Wait => proc_wait::wait(s, in_interrupt, message),
+    }
+}
+
+// The same for callers that hold the bytes and the sizes apart.
 pub fn take_call(
     s: &mut [u8],
     z: Sizes,
@@ -214,44 +253,29 @@ pub fn take_call(
     call: Call,
     b: &[u8],
     message: &mut [u8],
-) -> Reply
+) -> Result<Reply, Refusal>
     requires { CallAsks z s.old call b.now message.old }
     ensures { CallTook z s.old s.new in_interrupt call b.now message.old message.new result }
 {
-    match call {
-        Call::None => Reply::Refused { number: 2 },
-        Call::Start { how } => start(s, z, in_interrupt, how),
-        Call::Rfork { flags, how } => rfork(s, z, in_interrupt, flags, how),
-        Call::Name { length: _ } => name(s, z, in_interrupt, &b[6..]),
-        Call::Sched => proc_sched::sched(s, z, in_interrupt, message),
-        Call::Yield => proc_sleep::yield_now(s, z, in_interrupt),
-        Call::Sleep { rendez, condition } => sleep(s, z, in_interrupt, rendez, condition),
-        Call::Tsleep { asked } => tsleep(s, z, in_interrupt, asked),
-        Call::Wakeup { rendez } => wakeup(s, z, in_interrupt, rendez),
-        Call::Qlock { lock } => qlock(s, z, in_interrupt, lock),
-        Call::Canqlock { lock } => canqlock(s, z, in_interrupt, lock),
-        Call::Qunlock { lock } => qunlock(s, z, in_interrupt, lock),
-        Call::Cond { condition, value } => cond(s, z, in_interrupt, condition, value),
-        Call::Clock { reading } => proc_timer::clock(s, z, reading),
-        Call::Tadd { asked } => tadd(s, z, in_interrupt, asked),
-        Call::Tdel { timer } => tdel(s, z, in_interrupt, timer),
-        Call::Intr { reading } => proc_intr::intr(s, z, reading),
-        Call::Due => proc_wake::due(s, z),
-        Call::Exit { length: _ } => proc_exit::exit(s, z, in_interrupt, &b[6..]),
-        Call::Wait => proc_wait::wait(s, z, in_interrupt, message),
-    }
+    take_on(
+        &mut State { bytes: s, sizes: z },
+        in_interrupt,
+        call,
+        b,
+        message,
+    )
 }
 
 // Takes the step that the bytes `b` are. A message that it tells is at the front of `message`.
-pub fn take(s: &mut [u8], z: Sizes, b: &[u8], message: &mut [u8]) -> Reply
+pub fn take(s: &mut [u8], z: Sizes, b: &[u8], message: &mut [u8]) -> Result<Reply, Refusal>
     requires { Well z s.old }
     ensures { Taken z s.old s.new (decode b.now) message.old message.new result }
 {
     if message.len() < SHORTEST {
-        return Reply::Refused { number: 2 };
+        return Err(Refusal::NoSuchStep);
     }
-    let step = decode::decode(b);
-    let in_interrupt = step.marked;
-    let call = step.call;
-    take_call(s, z, in_interrupt, call, b, message)
+    let Some(step) = decode::decode(b) else {
+        return Err(Refusal::NoSuchStep);
+    };
+    take_call(s, z, step.marked, step.call, b, message)
 }

@@ -1,5 +1,5 @@
 -- A process goes, and its parent, where it lives, is told.
-use Rattle.std.specs.Prelude.{◌≡◌, false, List, ℕ, suc, ◌-◌, ◌<◌}
+use Rattle.std.specs.Prelude.{◌≡◌, false, List, ℕ, suc, ◌<◌}
 use Rattle.std.proofs.Math.Path.{sym, ap, subst}
 use Rattle.std.proofs.Common.{◌∙◌, arith, lt-ltb}
 use Rattle.std.proofs.Math.Bool.{true}
@@ -35,10 +35,10 @@ use Rattle.proc_exit.specs.FreeCells.{due-some}
 use Rattle.proc_exit.specs.Told.{told-nobody, others, counted}
 
 -- Process i runs, the link names its living parent, and a cell is free where a message is due.
-pub record DepartAsks (z : Sizes) (s : List ℕ) (i link : ℕ) : Type 0 where
+pub record DepartAsks (z : Sizes) (s : List ℕ) (i l : ℕ) : Type 0 where
   pub well : Well z s
   pub runs : mem_in z s fields.up 0 ≡ suc i
-  pub parent : ParentFound z s i link
+  pub parent : ParentFound z s i l
   pub cell : no_cell (machine_in z s) i ≡ false
 
 -- The answer is its pid; the machine is the definition's.
@@ -48,7 +48,7 @@ pub record Departed (z : Sizes) (s s' : List ℕ) (i : ℕ) (status : List ℕ) 
   pub machine : machine_in z s' ≡ (tell_parent (process (machine_in z s) i) status (without i (machine_in z s))).machine
   pub spares : Spares z s s'
 
-module _ {z : Sizes} {s : List ℕ} {i link : ℕ} (a : DepartAsks z s i link) where
+module _ {z : Sizes} {s : List ℕ} {i l : ℕ} (a : DepartAsks z s i l) where
   -- What the first calls ask.
   pub depart-leave : LeaveAsks z s i
   depart-leave = record { holds = a.well.holds; runs = a.runs }
@@ -80,11 +80,11 @@ module _ {z : Sizes} {s : List ℕ} {i link : ℕ} (a : DepartAsks z s i link) w
   inside-list = omega (arith, table-length z.processes (process_at (mem_in z s)), low)
 
   module _ {s₁ : List ℕ} (d : Left z s s₁ i) where
-    still : found (process M i).parent (machine_in z s₁) ≡ link_to link
+    still : found (process M i).parent (machine_in z s₁) ≡ link_to l
     still = d.found (process M i).parent apart ∙ sym a.parent.link
 
     -- Nobody is told.
-    pub departed_alone : {status : List ℕ} {p : Proc} → Loaded z s i p → link ≡ 0 → Departed z s s₁ i status p.pid
+    pub departed_alone : {status : List ℕ} {p : Proc} → Loaded z s i p → l ≡ 0 → Departed z s s₁ i status p.pid
     departed_alone {status} {p} o e =
         record {
           holds = d.holds;
@@ -95,71 +95,71 @@ module _ {z : Sizes} {s : List ℕ} {i link : ℕ} (a : DepartAsks z s i link) w
           spares = d.spares;
         }
 
-    module _ (ne : link ≡ 0 → ⊥) where
-      link-is : link ≡ suc (link - 1)
-      link-is = omega (arith, ne)
+module _ {z : Sizes} {s s₁ : List ℕ} {i j : ℕ} (a : DepartAsks z s i (suc j)) (d : Left z s s₁ i) where
+  abbrev N : Machine
+  N = machine_in z s
 
-      here : found (process M i).parent (machine_in z s₁) ≡ some (link - 1)
-      here = still ∙ ap link_to link-is
+  here : found (process N i).parent (machine_in z s₁) ≡ some j
+  here = still a d
 
-      before : found (process M i).parent M ≡ some (link - 1)
-      before = sym a.parent.link ∙ ap link_to link-is
+  before : found (process N i).parent N ≡ some j
+  before = sym a.parent.link
 
-      parent-used : Used (mem_in z s) (link - 1)
-      parent-used = (found-named (sizes_in z) (mem_in z s) (process M i).parent (link - 1) before).used
+  parent-used : Used (mem_in z s) j
+  parent-used = (found-named (sizes_in z) (mem_in z s) (process N i).parent j before).used
 
-      used_then : Used (mem_in z s₁) (link - 1)
-      used_then = (found-named (sizes_in z) (mem_in z s₁) (process M i).parent (link - 1) here).used
+  used_then : Used (mem_in z s₁) j
+  used_then = (found-named (sizes_in z) (mem_in z s₁) (process N i).parent j here).used
 
-      parent-pid : pid_of M (link - 1) ≡ (process M i).parent
-      parent-pid =
-          pid_of_lem (holds-bounds a.well.holds) (link - 1)
-          ∙ (found-named (sizes_in z) (mem_in z s) (process M i).parent (link - 1) before).pid
+  parent-pid : pid_of N j ≡ (process N i).parent
+  parent-pid =
+      pid_of_lem (holds-bounds a.well.holds) j
+      ∙ (found-named (sizes_in z) (mem_in z s) (process N i).parent j before).pid
 
-      other : link - 1 ≡ i → ⊥
-      other e = apart (sym pid ∙ ap (pid_of M) (sym e) ∙ parent-pid)
+  other : j ≡ i → ⊥
+  other e = apart a (sym (pid a) ∙ ap (pid_of N) (sym e) ∙ parent-pid)
 
-      same : process (machine_in z s₁) (link - 1) ≡ process M (link - 1)
-      same = ap (λ (x : Machine). process x (link - 1)) d.machine ∙ others M i (link - 1) other
+  same : process (machine_in z s₁) j ≡ process N j
+  same = ap (λ (x : Machine). process x j) d.machine ∙ others N i j other
 
-      child : 0 < mem_in z s₁ fields.nchild (link - 1)
-      child =
-          let n : mem_in z s₁ fields.nchild (link - 1) ≡ (process M (link - 1)).nchild =
-          ap (λ (p : Process). p.nchild) (sym (used_of (holds-bounds d.holds) (link - 1) used_then) ∙ same)
-          in
-          let k : (process M (link - 1)).nchild ≡ children M (process M i).parent =
-          a.well.good.nchild (link - 1) (omega (arith, pid_of_lem (holds-bounds a.well.holds) (link - 1), parent-used)) ∙ ap (children M) parent-pid
-          in
-          omega (arith, n, k, counted M i inside-list lives)
+  child : 0 < mem_in z s₁ fields.nchild j
+  child =
+      let n : mem_in z s₁ fields.nchild j ≡ (process N j).nchild =
+      ap (λ (p : Process). p.nchild) (sym (used_of (holds-bounds d.holds) j used_then) ∙ same)
+      in
+      let k : (process N j).nchild ≡ children N (process N i).parent =
+      a.well.good.nchild j (omega (arith, pid_of_lem (holds-bounds a.well.holds) j, parent-used)) ∙ ap (children N) parent-pid
+      in
+      omega (arith, n, k, counted N i (inside-list a) (lives a))
 
-      cell : mem_in z s₁ fields.nexits (link - 1) < 128 → (c : ℕ) × (free_cell (machine_in z s₁) ≡ some c)
-      unfolding has_room
-      cell l =
-          let n : length (process M (link - 1)).exits ≡ mem_in z s₁ fields.nexits (link - 1) =
-          ap (λ (p : Process). length p.exits) (sym same) ∙ exits-number d.holds (link - 1) used_then
-          in
-          let due : message_due i M ≡ true = due-some M i (link - 1) before ∙ lt-ltb (length (process M (link - 1)).exits) 128 (omega (arith, n, l)) in
-          subst (λ (x : Machine). (c : ℕ) × (free_cell x ≡ some c)) (sym d.machine)
-          (there (free_cell (without i M)) (and_off (message_due i M) (is_none (free_cell (without i M))) a.cell due))
+  cell : mem_in z s₁ fields.nexits j < 128 → (c : ℕ) × (free_cell (machine_in z s₁) ≡ some c)
+  unfolding has_room
+  cell l =
+      let n : length (process N j).exits ≡ mem_in z s₁ fields.nexits j =
+      ap (λ (p : Process). length p.exits) (sym same) ∙ exits-number d.holds j used_then
+      in
+      let due : message_due i N ≡ true = due-some N i j before ∙ lt-ltb (length (process N j).exits) 128 (omega (arith, n, l)) in
+      subst (λ (x : Machine). (c : ℕ) × (free_cell x ≡ some c)) (sym d.machine)
+      (there (free_cell (without i N)) (and_off (message_due i N) (is_none (free_cell (without i N))) a.cell due))
 
-      pub depart-tell : TellAsks z s₁ (link - 1)
-      depart-tell = record { holds = d.holds; used = used_then; child = child; cell = cell }
+  pub depart-tell : TellAsks z s₁ j
+  depart-tell = record { holds = d.holds; used = used_then; child = child; cell = cell }
 
-      -- The parent is told.
-      pub departed-told
-          : {s₂ status : List ℕ} {p : Proc}
-          → Loaded z s i p
-          → ToldParent z s₁ s₂ (link - 1) p.pid p.text status
-          → Departed z s s₂ i status p.pid
-      unfolding name_of process pid_of
-      departed-told {s₂} {status} {p} o t =
-          record {
-            holds = t.holds;
-            pid = o.pid ∙ sym pid;
-            machine =
-                t.machine (process M i) (pid ∙ sym o.pid)
-                (ap (λ (x : Process). x.name) (used_of (holds-bounds a.well.holds) i used) ∙ sym o.text)
-                here
-                ∙ ap (λ (x : Machine). (tell_parent (process M i) status x).machine) d.machine;
-            spares = spares-gone d.spares d.smaller t.spares (alive-kin t.kin);
-          }
+  -- The parent is told.
+  pub departed-told
+      : {s₂ status : List ℕ} {p : Proc}
+      → Loaded z s i p
+      → ToldParent z s₁ s₂ j p.pid p.text status
+      → Departed z s s₂ i status p.pid
+  unfolding name_of process pid_of
+  departed-told {s₂} {status} {p} o t =
+      record {
+        holds = t.holds;
+        pid = o.pid ∙ sym (pid a);
+        machine =
+            t.machine (process N i) (pid a ∙ sym o.pid)
+            (ap (λ (x : Process). x.name) (used_of (holds-bounds a.well.holds) i (used a)) ∙ sym o.text)
+            here
+            ∙ ap (λ (x : Machine). (tell_parent (process N i) status x).machine) d.machine;
+        spares = spares-gone d.spares d.smaller t.spares (alive-kin t.kin);
+      }

@@ -1,7 +1,7 @@
 -- exit: what the code shows at each return.
-use Rattle.std.specs.Prelude.{◌≡◌, Bool, true, List, [], ◌∷◌, ℕ, suc, ◌-◌, ◌<◌, ltb, get_or}
+use Rattle.std.specs.Prelude.{◌≡◌, Bool, true, List, [], ◌∷◌, ℕ, suc, ◌<◌, ltb, get_or, Result, Ok, Err}
 use Rattle.std.proofs.Math.Path.{refl, sym}
-use Rattle.std.proofs.Common.{ap, subst, ◌∙◌, arith, lt-ltb}
+use Rattle.std.proofs.Common.{ap, subst, ◌∙◌, lt-ltb}
 use Rattle.std.proofs.Math.Bool.{false}
 use Rattle.std.proofs.Math.Option.{some}
 use Rattle.machine.specs.Basics.{all}
@@ -19,13 +19,15 @@ use Rattle.holds.specs.Did.{machine_in}
 use Rattle.ages.specs.Kept.{LivingIn, holds-ages, living_in}
 use Rattle.ages.specs.Parent.{ParentFound}
 use Rattle.outcome.specs.declared.Reply as code
-use Rattle.outcome.specs.declared.Reply.TheVariants.{Exit, Refused}
+use Rattle.outcome.specs.declared.Reply.TheVariants.{Exit}
+use Rattle.outcome.specs.declared.Refusal.{Refusal}
+use Rattle.outcome.specs.declared.Refusal.TheVariants.{NoFreeCell}
 use Rattle.outcome.specs.Means.{means, told, status_of}
 use Rattle.outcome.specs.Stepped.{Well, Stepped, left_bytes}
 use Rattle.outcome.specs.Laws.{stepped-done, stepped-refused}
 use Rattle.outcome.specs.Refusals.{step}
 use Rattle.outcome.specs.RefusalsExit.{refused-exit_3, refused-exit_4, refused-exit-13, allowed-exit}
-use Rattle.proc_sleep.specs.Running.{nobody-up, somebody-up, link_up, current-is}
+use Rattle.outcome.specs.Running.{IsRunning, NotRunning, somebody-up, current-is, not-running}
 use Rattle.proc_exit.specs.Leave.{LeaveAsks, leave-used}
 use Rattle.proc_exit.specs.Cell.{NoCellAsks, NoCellIs}
 use Rattle.proc_exit.specs.Depart.{DepartAsks, Departed}
@@ -39,7 +41,7 @@ pub record PexitAsks (z : Sizes) (s : List ℕ) (i : ℕ) (status : List ℕ) : 
   pub bytes : all_bytes status ≡ true
   pub runs : mem_in z s fields.up 0 ≡ suc i
 
-pub record Exited (z : Sizes) (s s' : List ℕ) (k : Bool) (status : List ℕ) (a : code.Reply) : Type 0 where
+pub record Exited (z : Sizes) (s s' : List ℕ) (k : Bool) (status : List ℕ) (a : Result code.Reply Refusal) : Type 0 where
   pub stepped : Stepped z s s' (step k (exit status)) [] a
 
 -- A slice of bytes is one.
@@ -57,8 +59,9 @@ unfolding in_range
 in_range_lem m status e = e
 
 -- Where the mark was tested.
-pub exit-rest : {z : Sizes} {s s₁ status : List ℕ} {k : Bool} {r : code.Reply} → k ≡ false → Exited z s s₁ false status r → Exited z s s₁ k status r
-exit-rest {z} {s} {s₁} {status} {k} {r} f x = subst (λ (b : Bool). Exited z s s₁ b status r) (sym f) x
+pub exit-rest
+    : {z : Sizes} {s s₁ status : List ℕ} {k : Bool} {i : ℕ} {r : Result code.Reply Refusal} → IsRunning z s k i → Exited z s s₁ false status r → Exited z s s₁ k status r
+exit-rest {z} {s} {s₁} {status} {k} {i} {r} u x = subst (λ (b : Bool). Exited z s s₁ b status r) (sym u.unmarked) x
 
 -- What an exit does and answers, where process i runs.
 exit-reply : (m : Machine) (i : ℕ) (status : List ℕ) → m.up ≡ some i → (perform (exit status) m).reply ≡ answer (Answer.exit (pid_of m i) status)
@@ -70,27 +73,17 @@ unfolding perform exit_of open_outcome
 exit-after m i status e = rw (current-is m i e)
 
 module _ {z : Sizes} {s status : List ℕ} (a : ExitAsks z s) (b : (k : ℕ) → get_or status k 0 < 256) where
-  pub exit-marked : {k : Bool} → k ≡ true → Exited z s s k status (Refused 3)
-  unfolding left_by left_bytes
-  exit-marked {k} e =
-      record { stepped = stepped-refused (refused-exit_3 (machine_in z s) k status (in_range_lem (machine_in z s) status (all_bytes_lem status b)) e) a.well.holds refl refl }
+  pub exit-refused : {k : Bool} {e : Refusal} → NotRunning z s k e → Exited z s s k status (Err e)
+  exit-refused {k} n =
+      let y : in_range (machine_in z s).sizes (exit status) ≡ true = in_range_lem (machine_in z s) status (all_bytes_lem status b) in
+      record { stepped = not-running a.well.holds (refused-exit_3 (machine_in z s) k status y) (refused-exit_4 (machine_in z s) k status y) n }
 
-  pub exit-nobody : {k : Bool} {u : ℕ} → k ≡ false → u ≡ mem_in z s fields.up 0 → u ≡ 0 → Exited z s s k status (Refused 4)
-  unfolding left_by left_bytes
-  exit-nobody {k} {u} f e d =
-      record {
-        stepped =
-            stepped-refused (refused-exit_4 (machine_in z s) k status (in_range_lem (machine_in z s) status (all_bytes_lem status b)) f (nobody-up z s u e d)) a.well.holds refl refl;
-      }
-
-  pub exit-pexit : {u : ℕ} → u ≡ mem_in z s fields.up 0 → (u ≡ 0 → ⊥) → PexitAsks z s (u - 1) status
-  exit-pexit {u} e ne = record { well = a.well; bytes = all_bytes_lem status b; runs = link_up z s u e ne }
+  pub exit-pexit : {k : Bool} {i : ℕ} → IsRunning z s k i → PexitAsks z s i status
+  exit-pexit u = record { well = a.well; bytes = all_bytes_lem status b; runs = u.runs }
 
 module _ {z : Sizes} {s : List ℕ} {i : ℕ} {status : List ℕ} (a : PexitAsks z s i status) where
   runner : (machine_in z s).up ≡ some i
-  runner =
-      let e : i ≡ suc i - 1 = omega arith in
-      subst (λ (j : ℕ). (machine_in z s).up ≡ some j) (sym e) (somebody-up z s (suc i) (sym a.runs) (λ d. omega (arith, d)))
+  runner = somebody-up z s a.runs
 
   leaves : LeaveAsks z s i
   leaves = record { holds = a.well.holds; runs = a.runs }
@@ -107,7 +100,7 @@ module _ {z : Sizes} {s : List ℕ} {i : ℕ} {status : List ℕ} (a : PexitAsks
     pexit-depart n e = record { well = a.well; runs = a.runs; parent = p; cell = sym n.answer ∙ e }
 
   -- No cell is free for the message that is due; or it goes.
-  pub pexit-full : {r : Bool} → NoCellIs z s i r → r ≡ true → Exited z s s false status (Refused 13)
+  pub pexit-full : {r : Bool} → NoCellIs z s i r → r ≡ true → Exited z s s false status (Err NoFreeCell)
   unfolding left_by left_bytes
   pexit-full n e =
       record {
@@ -117,7 +110,7 @@ module _ {z : Sizes} {s : List ℕ} {i : ℕ} {status : List ℕ} (a : PexitAsks
             a.well.holds refl refl;
       }
 
-  pub pexit-gone : {s₁ : List ℕ} {r : Bool} {pid : ℕ} → NoCellIs z s i r → r ≡ false → Departed z s s₁ i status pid → Exited z s s₁ false status (Exit pid)
+  pub pexit-gone : {s₁ : List ℕ} {r : Bool} {pid : ℕ} → NoCellIs z s i r → r ≡ false → Departed z s s₁ i status pid → Exited z s s₁ false status (Ok (Exit pid))
   unfolding means told status_of
   pexit-gone {s₁} {r} {pid} n e d =
       let q : (perform (exit status) (machine_in z s)).reply ≡ answer (Answer.exit (pid_of (machine_in z s) i) status) = exit-reply (machine_in z s) i status runner in

@@ -2,6 +2,8 @@
 #![tactic(auto)]
 
 ghost use Rattle.std.specs.Prelude.{false};
+ghost use Rattle.memory.specs.Link.{link};
+ghost use Rattle.state.specs.Lent.{Same};
 ghost use Rattle.waitq.specs.Added.{AddAsks};
 ghost use Rattle.proc_exit.specs.Cell.{NoCellAsks, NoCellIs};
 ghost use Rattle.proc_exit.specs.Depart.{DepartAsks, Departed};
@@ -9,100 +11,98 @@ ghost use Rattle.proc_exit.specs.Exit.{PexitAsks, ExitAsks, Exited};
 ghost use Rattle.proc_exit.specs.Leave.{LeaveAsks, Left};
 ghost use Rattle.proc_exit.specs.Tell.{QueuedExit, TellAsks, ToldParent};
 
-use outcome::Reply;
-use state::{Index, Sizes};
+use outcome::{Refusal, Reply};
+use record::Proc;
+use state::{Index, State, View, field};
 
 // The running process `i` goes: it runs no more, and its cells and its record are free.
-fn leave(s: &mut [u8], z: Sizes, i: Index)
-    requires { LeaveAsks z s.old i }
-    ensures { Left z s.old s.new i }
+fn leave(s: &mut State, i: Index)
+    requires { LeaveAsks s.old.sizes s.old.bytes.now i }
+    ensures same { Same s.old s.new }
+    ensures done { Left s.old.sizes s.old.bytes.now s.new.bytes.now i }
 {
-    waitq::free_exits(s, z, i);
-    dat::stop(s, z);
-    records::release(s, z, i);
+    waitq::exits::take_all(s, i);
+    dat::lent::stop(s);
+    records::lent::release(s, i);
 }
 
 // Queues the exit of the child `pid` at process `j`, which has room and is woken where it waits for one.
-fn queue_exit(s: &mut [u8], z: Sizes, j: Index, pid: u64, name: [u8; 28], status: &[u8])
-    requires { AddAsks z s.old j }
-    ensures { QueuedExit z s.old s.new j pid name status.now }
+fn queue_exit(s: &mut State, j: Index, pid: u64, name: [u8; 28], status: &[u8])
+    requires { AddAsks s.old.sizes s.old.bytes.now j }
+    ensures same { Same s.old s.new }
+    ensures done { QueuedExit s.old.sizes s.old.bytes.now s.new.bytes.now j pid name status.now }
 {
-    waitq::add_exit(s, z, j, pid, name, status);
-    dat::wake_waitr(s, z, j);
+    waitq::exits::add(s, j, pid, name, status);
+    dat::lent::wake_waitr(s, j);
 }
 
 // The living process `j` is told that its child `pid` has gone: it has one child less; below 128 exits this one is queued.
-fn tell_parent(s: &mut [u8], z: Sizes, j: Index, pid: u64, name: [u8; 28], status: &[u8])
-    requires { TellAsks z s.old j }
-    ensures { ToldParent z s.old s.new j pid name status.now }
+fn tell_parent(s: &mut State, j: Index, pid: u64, name: [u8; 28], status: &[u8])
+    requires { TellAsks s.old.sizes s.old.bytes.now j }
+    ensures same { Same s.old s.new }
+    ensures done { ToldParent s.old.sizes s.old.bytes.now s.new.bytes.now j pid name status.now }
 {
-    let nchild = state::get16(s, z, state::PROCESS, state::NCHILD, j);
-    let nexits = state::get8(s, z, state::PROCESS, state::NEXITS, j);
-    records::set_nchild(s, z, j, nchild - 1);
+    let nchild = s.get(field::NCHILD, j);
+    let nexits = s.get(field::NEXITS, j);
+    records::lent::set_nchild(s, j, nchild - 1);
     if nexits < 128 {
-        queue_exit(s, z, j, pid, name, status);
+        queue_exit(s, j, pid, name, status);
     }
 }
 
-// Whether the exit of process `i` is due a message, `link` naming its parent, and no cell is free for it; its own cells are free once it goes.
-fn no_cell(s: &[u8], z: Sizes, i: Index, link: Index) -> bool
-    requires { NoCellAsks z s.now i link }
-    ensures { NoCellIs z s.now i result }
+// Whether the exit of process `i` is due a message to its living parent and no cell is free for it; its own cells are free once it goes.
+fn no_cell(v: &View, i: Index, parent: Option<Index>) -> bool
+    requires { NoCellAsks v.now.sizes v.now.bytes.now i (link parent) }
+    ensures { NoCellIs v.now.sizes v.now.bytes.now i result }
 {
-    if link == 0 {
+    let Some(j) = parent else {
         return false;
-    }
-    let there = state::get8(s, z, state::PROCESS, state::NEXITS, link - 1);
+    };
+    let there = v.get(field::NEXITS, j);
     if 128 <= there {
         return false;
     }
-    let cell = free::find_cell(s, z);
-    if cell != 0 {
+    if free::lent::find_cell(v).is_some() {
         return false;
     }
-    let own = state::get8(s, z, state::PROCESS, state::NEXITS, i);
+    let own = v.get(field::NEXITS, i);
     own == 0
 }
 
-// The running process `i` goes, and its parent, that `link` names, is told: its pid.
-fn depart(s: &mut [u8], z: Sizes, i: Index, link: Index, status: &[u8]) -> u64
-    requires { DepartAsks z s.old i link }
-    ensures { Departed z s.old s.new i status.now result }
+// The running process `i` goes, and its living parent, where it has one, is told: its pid.
+fn depart(s: &mut State, i: Index, parent: Option<Index>, status: &[u8]) -> u64
+    requires { DepartAsks s.old.sizes s.old.bytes.now i (link parent) }
+    ensures same { Same s.old s.new }
+    ensures done { Departed s.old.sizes s.old.bytes.now s.new.bytes.now i status.now result }
 {
-    let p = record::load(s, z, i);
-    let pid = p.pid;
-    let name = p.text;
-    leave(s, z, i);
-    if link != 0 {
-        tell_parent(s, z, link - 1, pid, name, status);
+    let p = Proc::load(&s.view(), i);
+    leave(s, i);
+    if let Some(j) = parent {
+        tell_parent(s, j, p.pid, p.text, status);
     }
-    pid
+    p.pid
 }
 
 // The running process `i` exits.
-fn pexit(s: &mut [u8], z: Sizes, i: Index, status: &[u8]) -> Reply
-    requires { PexitAsks z s.old i status.now }
-    ensures { Exited z s.old s.new false status.now result }
+fn pexit(s: &mut State, i: Index, status: &[u8]) -> Result<Reply, Refusal>
+    requires { PexitAsks s.old.sizes s.old.bytes.now i status.now }
+    ensures same { Same s.old s.new }
+    ensures done { Exited s.old.sizes s.old.bytes.now s.new.bytes.now false status.now result }
 {
-    let link = ages::find_parent(s, z, i);
-    if no_cell(s, z, i, link) {
-        return Reply::Refused { number: 13 };
+    let parent = ages::lent::find_parent(&s.view(), i);
+    if no_cell(&s.view(), i, parent) {
+        return Err(Refusal::NoFreeCell);
     }
-    let pid = depart(s, z, i, link, status);
-    Reply::Exit { pid }
+    let pid = depart(s, i, parent, status);
+    Ok(Reply::Exit { pid })
 }
 
 // Exits with the status given.
-pub fn exit(s: &mut [u8], z: Sizes, in_interrupt: bool, status: &[u8]) -> Reply
-    requires { ExitAsks z s.old }
-    ensures { Exited z s.old s.new in_interrupt status.now result }
+pub fn exit(s: &mut State, in_interrupt: bool, status: &[u8]) -> Result<Reply, Refusal>
+    requires { ExitAsks s.old.sizes s.old.bytes.now }
+    ensures same { Same s.old s.new }
+    ensures done { Exited s.old.sizes s.old.bytes.now s.new.bytes.now in_interrupt status.now result }
 {
-    if in_interrupt {
-        return Reply::Refused { number: 3 };
-    }
-    let up = state::get16(s, z, state::HEADER, state::UP, 0);
-    if up == 0 {
-        return Reply::Refused { number: 4 };
-    }
-    pexit(s, z, up - 1, status)
+    let i = outcome::lent::running(&s.view(), in_interrupt)?;
+    pexit(s, i, status)
 }

@@ -1,7 +1,7 @@
 -- rfork with RFPROC: what the code shows at each return.
-use Rattle.std.specs.Prelude.{if◌then◌else◌, ◌≡◌, Bool, true, List, [], ◌∷◌, ℕ, suc, ◌-◌, ◌^◌, ◌<◌, eqb}
+use Rattle.std.specs.Prelude.{if◌then◌else◌, ◌≡◌, Bool, true, List, [], ◌∷◌, ℕ, suc, ◌≤◌, ◌<◌, eqb, Result, Ok, Err}
 use Rattle.std.proofs.Math.Path.{refl, sym, ap}
-use Rattle.std.proofs.Common.{◌∙◌, arith, eq-eqb, ne_eqb}
+use Rattle.std.proofs.Common.{subst, ◌∙◌, arith, eq-eqb, ne_eqb}
 use Rattle.std.proofs.Math.Bool.{false}
 use Rattle.std.proofs.Math.Option.{some}
 use Rattle.machine.specs.Machine.{Machine}
@@ -13,28 +13,27 @@ use Rattle.machine.specs.Update.{with_next_pid}
 use Rattle.machine.specs.Perform.{perform, current, rfork_of}
 use Rattle.machine.specs.StepOf.{left_by}
 use Rattle.state.specs.Fields as fields
-use Rattle.state.specs.Abs.{link_to}
 use Rattle.state.specs.Places.{mem_in}
 use Rattle.state.specs.declared.Sizes.{Sizes}
-use Rattle.exact.specs.Bounds.{at_most}
 use Rattle.holds.specs.Holds.{Holds}
-use Rattle.holds.specs.Whole.{holds-bounds}
 use Rattle.holds.specs.Did.{machine_in, writes_in}
 use Rattle.holds.specs.Use.{same_use}
 use Rattle.holds.specs.Touched.{Touched, touched_none, touched-did}
-use Rattle.free.specs.Asks.{RecordsIn, records_in}
-use Rattle.free.specs.FindRecord.{RecordFound}
 use Rattle.records.specs.Pid.{pid_stores, PidTaken}
 use Rattle.outcome.specs.declared.Reply as code
-use Rattle.outcome.specs.declared.Reply.TheVariants.{Pid, Refused}
+use Rattle.outcome.specs.declared.Reply.TheVariants.{Pid}
+use Rattle.outcome.specs.declared.Refusal.{Refusal}
+use Rattle.outcome.specs.declared.Refusal.TheVariants.{NoVmem}
 use Rattle.outcome.specs.Means.{means, told}
 use Rattle.outcome.specs.Stepped.{Well, Stepped, left_bytes}
-use Rattle.outcome.specs.Laws.{stepped-done, stepped-refused, stepped-left}
+use Rattle.outcome.specs.Laws.{stepped-done, stepped-left}
 use Rattle.outcome.specs.Refusals.{step}
 use Rattle.outcome.specs.RefusalsMake.{refused-rfork-12, refused-rfork-16, refused-rfork-11, allowed-rfork}
-use Rattle.proc_start.specs.Start.{found_some, pid_in, not_last}
-use Rattle.proc_sleep.specs.Running.{current-is}
-use Rattle.proc_fork.specs.Runs.{runs_up}
+use Rattle.proc_start.specs.declared.Making.{Making}
+use Rattle.proc_start.specs.declared.Making.TheVariants.{Works, NoSpace, NoStack, NoCopy}
+use Rattle.proc_start.specs.Making.{number}
+use Rattle.proc_start.specs.Room.{Room, NoRoom, pid_in, not_last, no-room}
+use Rattle.outcome.specs.Running.{somebody-up, current-is}
 use Rattle.proc_fork.specs.Flags.{Has}
 use Rattle.proc_fork.specs.Child.{ForkAsks, Forked, child_made}
 
@@ -50,20 +49,32 @@ pub record Spent (z : Sizes) (s s' : List ℕ) (M : ℕ) : Type 0 where
   pub machine : machine_in z s' ≡ (if eqb M 3 then with_next_pid (suc (machine_in z s).next_pid) (machine_in z s) else machine_in z s)
   pub touched : Touched z s s'
 
-module _ {z : Sizes} {s : List ℕ} {M : ℕ} (a : SpendAsks z s) where
-  pub spend-some : {s₁ : List ℕ} {v : ℕ} → M ≡ 3 → PidTaken z s s₁ v → Spent z s s₁ M
-  spend-some e t =
-      record {
+module _ {z : Sizes} {s : List ℕ} (how : Making) (a : SpendAsks z s) where
+  pub spend-some : {s₁ : List ℕ} {v : ℕ} → how ≡ NoCopy → PidTaken z s s₁ v → Spent z s s₁ (number how)
+  spend-some {s₁} e t =
+      subst (λ (x : Making). Spent z s s₁ (number x)) (sym e)
+      (record {
         holds = t.did.holds 0 a.holds;
-        bytes = rw (eq-eqb M 3 e) t.did.bytes;
-        machine = rw (eq-eqb M 3 e) t.did.machine;
+        bytes = t.did.bytes;
+        machine = t.did.machine;
         touched = touched-did t.did (same_use refl refl refl refl refl refl refl refl refl);
-      }
+      })
 
-  pub spend-none : (M ≡ 3 → ⊥) → Spent z s s M
-  spend-none ne = record { holds = a.holds; bytes = rw (ne_eqb M 3 ne); machine = rw (ne_eqb M 3 ne); touched = touched_none }
+  spared : (x : Making) → eqb (number x) 3 ≡ false → how ≡ x → Spent z s s (number how)
+  spared x n e =
+      subst (λ (y : Making). Spent z s s (number y)) (sym e)
+      (record { holds = a.holds; bytes = rw n; machine = rw n; touched = touched_none })
 
-pub record RforkTook (z : Sizes) (s s' : List ℕ) (k : Bool) (F M : ℕ) (a : code.Reply) : Type 0 where
+  pub spend-works : how ≡ Works → Spent z s s (number how)
+  spend-works e = spared Works refl e
+
+  pub spend-space : how ≡ NoSpace → Spent z s s (number how)
+  spend-space e = spared NoSpace refl e
+
+  pub spend-stack : how ≡ NoStack → Spent z s s (number how)
+  spend-stack e = spared NoStack refl e
+
+pub record RforkTook (z : Sizes) (s s' : List ℕ) (k : Bool) (F M : ℕ) (a : Result code.Reply Refusal) : Type 0 where
   pub stepped : Stepped z s s' (step k (rfork F M)) [] a
 
 -- Process i runs, and the flags have RFPROC.
@@ -87,64 +98,55 @@ rfork-child F i m false e h x = rw (h, x, e) refl
 
 module _ {z : Sizes} {s : List ℕ} {F M i : ℕ} (a : MakeAsks z s F M i) where
   up : (machine_in z s).up ≡ some i
-  up = runs_up z s a.runs
+  up = somebody-up z s a.runs
 
-  pub make_find : RecordsIn z s (mem_in z s fields.pid)
-  make_find = records_in a.well.holds.sizes a.well.holds.state a.well.holds.keeps.index
+  pub make-full : {e : Refusal} → NoRoom z s e → RforkTook z s s false F M (Err e)
+  make-full n =
+      record {
+        stepped =
+            no-room a.well.holds (refused-rfork-12 (machine_in z s) false F M a.range refl a.flags up a.child)
+            (λ at r d. refused-rfork-16 (machine_in z s) false F M a.range refl a.flags up a.child r d) n;
+      }
 
-  module _ {l : ℕ} (r : RecordFound z s l) where
-    pub make-full : l ≡ 0 → RforkTook z s s false F M (Refused 12)
-    unfolding left_by left_bytes
-    make-full e =
-        record {
-          stepped =
-              stepped-refused
-              (refused-rfork-12 (machine_in z s) false F M a.range refl a.flags up a.child (sym r.machine ∙ ap link_to e))
-              a.well.holds refl refl;
-        }
+  module _ {p : ℕ} (r : Room z s p) where
+    pub make-spend : SpendAsks z s
+    make-spend = record { holds = a.well.holds; room = omega (arith, r.next, r.left) }
 
-    module _ (ne : l ≡ 0 → ⊥) {p : ℕ} (e : p ≡ mem_in z s fields.next_pid 0) where
-      pub make-last : p ≡ 18446744073709551615 → RforkTook z s s false F M (Refused 16)
-      unfolding left_by left_bytes
-      make-last d =
+    module _ {s₁ : List ℕ} (t : Spent z s s₁ M) where
+      pub make_unmade : {e : Refusal} → (e ≡ NoVmem) × (1 ≤ M) → RforkTook z s s₁ false F M (Err e)
+      unfolding left_by left_bytes open_table open_step
+      make_unmade {e} (x, w) =
           record {
             stepped =
-                stepped-refused
-                (refused-rfork-16 (machine_in z s) false F M a.range refl a.flags up a.child (found_some r ne)
-                (eq-eqb (machine_in z s).next_pid (2 ^ 64 - 1) (pid_in z s ∙ sym e ∙ d)))
-                a.well.holds refl refl;
+                subst (λ (y : Refusal). Stepped z s s₁ (step false (rfork F M)) [] (Err y)) (sym x)
+                (stepped-left
+                (refused-rfork-11 (machine_in z s) false F M a.range refl a.flags up a.child r.free (not_last r)
+                (ne_eqb M 0 (λ d. omega (arith, w, d))))
+                t.holds t.touched.spares (sym t.machine) (sym t.bytes));
           }
 
-      module _ (d : p ≡ 18446744073709551615 → ⊥) where
-        room : mem_in z s fields.next_pid 0 < 18446744073709551615
-        room = omega (arith, e, d, at_most (holds-bounds a.well.holds) fields.next_pid 0)
+      module _ (e : M ≡ 0) where
+        same : s₁ ≡ s
+        same = rw e at t.bytes
 
-        pub make_unmade : {s₁ : List ℕ} → (M ≡ 0 → ⊥) → Spent z s s₁ M → RforkTook z s s₁ false F M (Refused 11)
-        unfolding left_by left_bytes open_table open_step
-        make_unmade w t =
-            record {
-              stepped =
-                  stepped-left
-                  (refused-rfork-11 (machine_in z s) false F M a.range refl a.flags up a.child (found_some r ne) (not_last z s e d)
-                  (ne_eqb M 0 w))
-                  t.holds t.touched.spares (sym t.machine) (sym t.bytes);
-            }
+        pub make-fork : ForkAsks z s₁ i
+        make-fork =
+            subst (λ (x : List ℕ). ForkAsks z x i) (sym same)
+            (record { well = a.well; runs = a.runs; at = r.at; free = r.free; pid = omega (arith, r.next, r.left) })
 
-        pub make-fork : ForkAsks z s i
-        make-fork = record { well = a.well; runs = a.runs; at = l - 1; free = found_some r ne; pid = room }
-
-        pub make-done : {s₁ : List ℕ} {off : Bool} → M ≡ 0 → Has F 64 off → Forked z s s₁ i off → RforkTook z s s₁ false F M (Pid p)
+        pub make-done : {s₂ : List ℕ} {off : Bool} → Has F 64 off → Forked z s₁ s₂ i off → RforkTook z s s₂ false F M (Ok (Pid p))
         unfolding perform readying means told has
-        make-done {s₁} {off} w h f =
+        make-done {s₂} {off} h g =
             let m : Machine = machine_in z s in
+            let f : Forked z s s₂ i off = subst (λ (x : List ℕ). Forked z x s₂ i off) same g in
             let q : rfork_of F m ≡ readying (m.next_pid ∷ []) (Answer.pid m.next_pid) (child_made off i m) =
             rfork-child F i m off (current-is m i up) a.child (sym h.bit) in
             record {
               stepped =
                   stepped-done
-                  (allowed-rfork m false F M a.range refl a.flags up a.child (found_some r ne) (not_last z s e d) (eq-eqb M 0 w))
+                  (allowed-rfork m false F M a.range refl a.flags up a.child r.free (not_last r) (eq-eqb M 0 e))
                   f.holds f.spares
-                  (ap (λ (n : ℕ). answer (Answer.pid n)) (e ∙ sym (pid_in z s)) ∙ ap (λ (o : Outcome). o.reply) (sym q))
+                  (ap (λ (n : ℕ). answer (Answer.pid n)) (sym r.next ∙ sym (pid_in z s)) ∙ ap (λ (o : Outcome). o.reply) (sym q))
                   (ap (λ (o : Outcome). told o.reply) (sym q))
                   (f.machine ∙ ap (λ (o : Outcome). o.after) (sym q));
             }

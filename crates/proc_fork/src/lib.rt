@@ -2,16 +2,19 @@
 #![tactic(auto)]
 
 ghost use Rattle.std.specs.Prelude.{true, false, ◌≤◌, ◌<◌, length};
+ghost use Rattle.state.specs.Lent.{Same};
+ghost use Rattle.outcome.specs.Stepped.{Well};
+ghost use Rattle.proc_start.specs.Making.{number};
 ghost use Rattle.proc_fork.specs.Pad.{Padded};
 ghost use Rattle.proc_fork.specs.Name.{NameStepAsks, NameTook};
 ghost use Rattle.proc_fork.specs.Flags.{Has, Bad};
 ghost use Rattle.proc_fork.specs.Child.{ChildOf, ForkAsks, Forked, AdoptAsks, Adopted};
 ghost use Rattle.proc_fork.specs.Make.{SpendAsks, Spent, MakeAsks, RforkTook};
-ghost use Rattle.proc_fork.specs.Rfork.{RforkAsks};
 
-use outcome::Reply;
+use outcome::{Refusal, Reply};
+use proc_start::Making;
 use record::Proc;
-use state::{Index, Sizes};
+use state::{Index, State};
 
 // The bytes of a name, zero-filled.
 fn padded(bytes: &[u8]) -> [u8; 28]
@@ -19,29 +22,19 @@ fn padded(bytes: &[u8]) -> [u8; 28]
     ensures { Padded bytes.now result }
 {
     let mut text = [0u8; 28];
-    let mut j: usize = 0;
-    while j < bytes.len() {
-        text[j] = bytes[j];
-        j += 1;
-    }
+    text[..bytes.len()].copy_from_slice(bytes);
     text
 }
 
 // The running process has the name `bytes`.
-pub fn name(s: &mut [u8], z: Sizes, in_interrupt: bool, bytes: &[u8]) -> Reply
-    requires { NameStepAsks z s.old bytes.now }
-    ensures { NameTook z s.old s.new in_interrupt bytes.now result }
+pub fn name(s: &mut State, in_interrupt: bool, bytes: &[u8]) -> Result<Reply, Refusal>
+    requires { NameStepAsks s.old.sizes s.old.bytes.now bytes.now }
+    ensures same { Same s.old s.new }
+    ensures done { NameTook s.old.sizes s.old.bytes.now s.new.bytes.now in_interrupt bytes.now result }
 {
-    if in_interrupt {
-        return Reply::Refused { number: 3 };
-    }
-    let up = state::get16(s, z, state::HEADER, state::UP, 0);
-    if up == 0 {
-        return Reply::Refused { number: 4 };
-    }
-    let text = padded(bytes);
-    records::set_name(s, z, up - 1, text);
-    Reply::Done
+    let i = outcome::lent::running(&s.view(), in_interrupt)?;
+    records::lent::set_name(s, i, padded(bytes));
+    Ok(Reply::Done)
 }
 
 // The flags of rfork that are looked at.
@@ -96,104 +89,96 @@ fn child_of(p: Proc, parent: u64, at: Index) -> Proc
 }
 
 // The running process `i` has a child that is dissociated from it.
-fn fork_off(s: &mut [u8], z: Sizes, i: Index)
-    requires { ForkAsks z s.old i }
-    ensures { Forked z s.old s.new i true }
+fn fork_off(s: &mut State, i: Index)
+    requires { ForkAsks s.old.sizes s.old.bytes.now i }
+    ensures same { Same s.old s.new }
+    ensures done { Forked s.old.sizes s.old.bytes.now s.new.bytes.now i true }
 {
-    let p = record::load(s, z, i);
-    let child = child_of(p, 0, 0);
-    proc_start::begin(s, z, child);
+    let p = Proc::load(&s.view(), i);
+    proc_start::begin(s, child_of(p, 0, 0));
 }
 
 // Makes a process with the name of `p` a child of process `i`, whose record `p` is: its exit goes to `i`, and it counts as one of the
 // living children of `i` until then. Its record.
-fn adopt(s: &mut [u8], z: Sizes, i: Index, p: Proc) -> Proc
-    requires { AdoptAsks z s.old i p }
-    ensures { Adopted z s.old s.new i p result }
+fn adopt(s: &mut State, i: Index, p: Proc) -> Proc
+    requires { AdoptAsks s.old.sizes s.old.bytes.now i p }
+    ensures same { Same s.old s.new }
+    ensures done { Adopted s.old.sizes s.old.bytes.now s.new.bytes.now i p result }
 {
     let pid = p.pid;
     let nchild = p.nchild;
-    records::set_nchild(s, z, i, nchild + 1);
+    records::lent::set_nchild(s, i, nchild + 1);
     child_of(p, pid, i + 1)
 }
 
 // The running process `i` has a child that counts as one of its living children.
-fn fork_own(s: &mut [u8], z: Sizes, i: Index)
-    requires { ForkAsks z s.old i }
-    ensures { Forked z s.old s.new i false }
+fn fork_own(s: &mut State, i: Index)
+    requires { ForkAsks s.old.sizes s.old.bytes.now i }
+    ensures same { Same s.old s.new }
+    ensures done { Forked s.old.sizes s.old.bytes.now s.new.bytes.now i false }
 {
-    let p = record::load(s, z, i);
-    let child = adopt(s, z, i, p);
-    proc_start::begin(s, z, child);
+    let p = Proc::load(&s.view(), i);
+    let child = adopt(s, i, p);
+    proc_start::begin(s, child);
 }
 
 // The running process `i` has a child, dissociated where `off`.
-fn fork(s: &mut [u8], z: Sizes, i: Index, off: bool)
-    requires { ForkAsks z s.old i }
-    ensures { Forked z s.old s.new i off }
+fn fork(s: &mut State, i: Index, off: bool)
+    requires { ForkAsks s.old.sizes s.old.bytes.now i }
+    ensures same { Same s.old s.new }
+    ensures done { Forked s.old.sizes s.old.bytes.now s.new.bytes.now i off }
 {
     if off {
-        fork_off(s, z, i);
+        fork_off(s, i);
     } else {
-        fork_own(s, z, i);
+        fork_own(s, i);
     }
 }
 
-// No process can be made: with 3 a pid is spent.
-fn spend(s: &mut [u8], z: Sizes, how: u8)
-    requires { SpendAsks z s.old }
-    ensures { Spent z s.old s.new how }
+// A pid is spent where the copy of a page fails.
+fn spend(s: &mut State, how: Making)
+    requires { SpendAsks s.old.sizes s.old.bytes.now }
+    ensures same { Same s.old s.new }
+    ensures done { Spent s.old.sizes s.old.bytes.now s.new.bytes.now (number how) }
 {
-    if how == 3 {
-        records::next_pid(s, z);
+    match how {
+        Making::NoCopy => {
+            records::lent::next_pid(s);
+        }
+        Making::Works => {}
+        Making::NoSpace => {}
+        Making::NoStack => {}
     }
 }
 
-// The running process `i` makes a process: `how` is 0 where it works.
-fn make(s: &mut [u8], z: Sizes, flags: u32, how: u8, i: Index) -> Reply
-    requires { MakeAsks z s.old flags how i }
-    ensures { RforkTook z s.old s.new false flags how result }
+// The running process `i` makes a process.
+fn make(s: &mut State, flags: u32, how: Making, i: Index) -> Result<Reply, Refusal>
+    requires { MakeAsks s.old.sizes s.old.bytes.now flags (number how) i }
+    ensures same { Same s.old s.new }
+    ensures done { RforkTook s.old.sizes s.old.bytes.now s.new.bytes.now false flags (number how) result }
 {
-    let link = free::find_record(s, z);
-    if link == 0 {
-        return Reply::Refused { number: 12 };
-    }
-    let pid = state::get64(s, z, state::HEADER, state::NEXT_PID, 0);
-    if pid == records::PIDS_END {
-        return Reply::Refused { number: 16 };
-    }
-    if how != 0 {
-        spend(s, z, how);
-        return Reply::Refused {
-            number: outcome::ENOVMEM,
-        };
-    }
-    let off = has(flags, RFNOWAIT);
-    fork(s, z, i, off);
-    Reply::Pid { pid }
+    let pid = proc_start::new_pid(&s.view())?;
+    spend(s, how);
+    how.made()?;
+    fork(s, i, has(flags, RFNOWAIT));
+    Ok(Reply::Pid { pid })
 }
 
 // With RFPROC the running process makes a process; without it, nothing changes.
-pub fn rfork(s: &mut [u8], z: Sizes, in_interrupt: bool, flags: u32, how: u8) -> Reply
-    requires { RforkAsks z s.old how }
-    ensures { RforkTook z s.old s.new in_interrupt flags how result }
+pub fn rfork(s: &mut State, in_interrupt: bool, flags: u32, how: Making) -> Result<Reply, Refusal>
+    requires { Well s.old.sizes s.old.bytes.now }
+    ensures same { Same s.old s.new }
+    ensures done { RforkTook s.old.sizes s.old.bytes.now s.new.bytes.now in_interrupt flags (number how) result }
 {
     if in_interrupt {
-        return Reply::Refused { number: 3 };
+        return Err(Refusal::InInterrupt);
     }
-    let wrong = bad(flags);
-    if wrong {
-        return Reply::Refused {
-            number: outcome::EBADARG,
-        };
+    if bad(flags) {
+        return Err(Refusal::BadArg);
     }
-    let up = state::get16(s, z, state::HEADER, state::UP, 0);
-    if up == 0 {
-        return Reply::Refused { number: 4 };
+    let i = outcome::lent::up(&s.view())?;
+    if has(flags, RFPROC) {
+        return make(s, flags, how, i);
     }
-    let child = has(flags, RFPROC);
-    if child {
-        return make(s, z, flags, how, up - 1);
-    }
-    Reply::Pid { pid: 0 }
+    Ok(Reply::Pid { pid: 0 })
 }

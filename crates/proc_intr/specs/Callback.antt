@@ -37,9 +37,10 @@ rendez_of z m t = if ltb t z.timers then m fields.timer_rendez t else m fields.r
 abbrev pub callback_stores : Sizes → Memory → (t l : ℕ) → List Write
 callback_stores z m t l = if eqb t 0 then tick_stores m else link_stores m (rendez_of z m t) l
 
--- It did what the machine's `callback` does; l is the link to whom it woke, 0 for nobody.
-pub record CalledBack (z : Sizes) (s s' : List ℕ) (t l : ℕ) : Type 0 where
-  pub did : Readies z s s' (callback_stores z (mem_in z s) t l) (callback t (machine_in z s)) l
+-- It did what the machine's `callback` does; woke is the link to whom it woke, 0 for nobody.
+pub record CalledBack (z : Sizes) (s s' : List ℕ) (t : ℕ) : Type 0 where
+  pub woke : ℕ
+  pub did : Readies z s s' (callback_stores z (mem_in z s) t woke) (callback t (machine_in z s)) woke
 
 pub callback-ticks : {z : Sizes} {s : List ℕ} {t : ℕ} → CallbackAsks z s t → TickAsks z s
 unfolding machine_of
@@ -55,10 +56,11 @@ pub called-tick
     → CallbackAsks z s t
     → t ≡ 0
     → Became z s s' (tick_stores (mem_in z s)) (ticked (machine_in z s))
-    → CalledBack z s s' t 0
+    → CalledBack z s s' t
 unfolding callback
 called-tick {z} {s} {s'} {t} a e b =
     record {
+      woke = 0;
       did = record {
         holds = b.holds;
         bytes = rw e b.wrote.bytes;
@@ -80,16 +82,16 @@ unfolding callback
 own-callback M t ne l = rw (ne_eqb t 0 ne, le-ltb t M.sizes.timers l)
 
 pub called-own
-    : {z : Sizes} {s s' : List ℕ} {t l : ℕ}
+    : {z : Sizes} {s s' : List ℕ} {t : ℕ}
     → CallbackAsks z s t
     → (t ≡ 0 → ⊥)
     → z.timers ≤ t
-    → Twoken z s s' (t - z.timers) l
-    → CalledBack z s s' t l
+    → Twoken z s s' (t - z.timers)
+    → CalledBack z s s' t
 unfolding machine_of
-called-own {z} {s} {s'} {t} {l} a ne k w =
+called-own {z} {s} {s'} {t} a ne k w =
     let M : Machine = machine_in z s in
-    record { did = readies_as w.did (rw (ne_eqb t 0 ne, le-ltb t z.timers k)) (own-callback M t ne k) }
+    record { woke = w.woke; did = readies_as w.did (rw (ne_eqb t 0 ne, le-ltb t z.timers k)) (own-callback M t ne k) }
 
 -- A kernel timer.
 pub callback-wakes
@@ -112,12 +114,13 @@ pub called_kernel
     → t < z.timers
     → r ≡ mem_in z s fields.timer_rendez t
     → Woke z s s' r l
-    → CalledBack z s s' t l
+    → CalledBack z s s' t
 unfolding machine_of
 called_kernel {z} {s} {s'} {t} {r} {l} a ne k e w =
     let M : Machine = machine_in z s in
     let x : (setting M t).rendez ≡ r = ap (λ (y : Setting). y.rendez) (setting_of_lem (holds-bounds a.well.holds) t k) ∙ sym e in
     record {
+      woke = l;
       did =
           readies_as (readies_woke (wake r M) w refl)
           (rw (ne_eqb t 0 ne, lt-ltb t z.timers k) (ap (λ (y : ℕ). link_stores (mem_in z s) y l) e))

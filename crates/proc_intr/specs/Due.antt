@@ -46,38 +46,32 @@ none-due : (reading : ℕ) (q : List Queued) → Later reading q → NoneDue rea
 none-due reading [] l = tt
 none-due reading (x ∷ rest) l = l
 
--- What the code of `fire_due` shows: nothing is due, or the head is taken off and fires.
-pub due-none : {z : Sizes} {s s₁ : List ℕ} {reading l : ℕ} → DueAsks z s reading → PoppedDue z s s₁ reading l → l ≡ 0 → FiredDue z s s₁ reading false
-due-none {z} {s} {s₁} {reading} {l} a p e =
-    let q : PoppedDue z s s₁ reading 0 = subst (PoppedDue z s s₁ reading) e p in
-    let b : s₁ ≡ s = q.wrote.bytes in
+-- What the code of `fire_due` shows: nothing is due, or the head, timer t, is taken off and fires.
+pub due-none : {z : Sizes} {s s₁ : List ℕ} {reading : ℕ} → DueAsks z s reading → PoppedDue z s s₁ reading 0 → FiredDue z s s₁ reading false
+due-none {z} {s} {s₁} {reading} a p =
+    let b : s₁ ≡ s = p.wrote.bytes in
     record {
       again = subst (λ (x : List ℕ). DueAsks z x reading) (sym b) a;
       bytes = λ _. b;
-      later = λ _. none-due reading (machine_in z s).queued (q.later refl);
+      later = λ _. none-due reading (machine_in z s).queued (p.later refl);
       fires = λ x. absurd (not-both (sym x));
       spares = p.spares;
       fewer = p.fewer.fewer;
       rounds = rounds-same (ap (mem_in z) b);
     }
 
--- The link of a timer.
-link-suc : (l : ℕ) → (l ≡ 0 → ⊥) → l ≡ suc (l - 1)
-link-suc l ne = omega arith
-
-pub due-fire : {z : Sizes} {s s₁ : List ℕ} {reading l : ℕ} → DueAsks z s reading → PoppedDue z s s₁ reading l → (l ≡ 0 → ⊥) → FireAsks z s₁ (l - 1)
+pub due-fire : {z : Sizes} {s s₁ : List ℕ} {reading t : ℕ} → DueAsks z s reading → PoppedDue z s s₁ reading (suc t) → FireAsks z s₁ t
 unfolding machine_of
-due-fire {z} {s} {s₁} {reading} {l} a p ne =
-    let t : ℕ = l - 1 in
+due-fire {z} {s} {s₁} {reading} {t} a p =
     let M : Machine = machine_in z s in
     let d : ℕ = mem_in z s fields.deadline t in
-    let h : HeadDue M (machine_in z s₁) reading t d = p.head t (link-suc l ne) in
+    let h : HeadDue M (machine_in z s₁) reading t d = p.head t refl in
     let holds : Holds z s₁ 0 = p.holds 0 a.well.holds in
     let g : Good (machine_in z s₁) = subst Good (sym h.machine) (rest-good M (record { timer = t; deadline = d }) h.rest a.well.good h.queue) in
     record {
       call = record {
         well = record { holds = holds; good = g };
-        index = omega (arith, p.range, ne);
+        index = omega (arith, p.range);
         lives = λ k.
             let x : z.timers + (t - z.timers) ≡ t = omega (arith, k) in
             let v : 0 < pid_of (machine_in z s₁) (t - z.timers) =
@@ -86,7 +80,7 @@ due-fire {z} {s} {s₁} {reading} {l} a p ne =
             in
             subst (λ (y : ℕ). 0 < y) (pid_of_lem (holds-bounds holds) (t - z.timers)) v;
       };
-      off = p.off t (link-suc l ne);
+      off = p.off t refl;
       small = omega (arith, ap (λ (k : ℕ → ℕ). k t) p.fewer.calm.deadlines, h.due, a.last, a.well.good.in_range.last_now);
     }
 
@@ -107,13 +101,13 @@ fires_as {z} {s} {s₁} {s₂} {reading} {t} p f =
 
 -- The head, taken off, fires: where it is periodic it returns.
 fired-rounds
-    : {z : Sizes} {s s₁ s₂ : List ℕ} {reading l : ℕ} → PoppedDue z s s₁ reading l → (l ≡ 0 → ⊥) → Fired z s₁ s₂ (l - 1) → Rounds z (mem_in z s) (mem_in z s₂)
-fired-rounds {z} {s} {s₁} {s₂} {reading} {l} p ne f =
+    : {z : Sizes} {s s₁ s₂ : List ℕ} {reading t : ℕ} → PoppedDue z s s₁ reading (suc t) → Fired z s₁ s₂ t → Rounds z (mem_in z s) (mem_in z s₂)
+fired-rounds {z} {s} {s₁} {s₂} {reading} {t} p f =
     let c : Calm (mem_in z s) (mem_in z s₁) = p.fewer.calm in
     record {
       periods = f.rounds.periods ∙ p.periods;
-      once = λ t e. f.rounds.once t (same t ∙ e) ∙ ap (λ (g : ℕ → ℕ). g t) c.deadlines;
-      stays = λ t d u. stays t (λ e. d (sym (same t) ∙ e)) u (eqb (l - 1) t) refl;
+      once = λ x e. f.rounds.once x (same x ∙ e) ∙ ap (λ (g : ℕ → ℕ). g x) c.deadlines;
+      stays = λ x d u. stays x (λ e. d (sym (same x) ∙ e)) u (eqb t x) refl;
       kin = kin_join p.fewer.kin f.rounds.kin;
       parents = f.rounds.parents ∙ c.parents;
       exit_pids = f.rounds.exit_pids ∙ c.exit_pids;
@@ -121,31 +115,30 @@ fired-rounds {z} {s} {s₁} {s₂} {reading} {l} p ne f =
       bytes = f.rounds.bytes ∙ c.bytes;
     }
   where
-    same : (t : ℕ) → period_in z (mem_in z s₁) t ≡ period_in z (mem_in z s) t
-    same t = period-same z (mem_in z s) (mem_in z s₁) t p.periods
+    same : (x : ℕ) → period_in z (mem_in z s₁) x ≡ period_in z (mem_in z s) x
+    same x = period-same z (mem_in z s) (mem_in z s₁) x p.periods
 
     stays
-        : (t : ℕ)
-        → (period_in z (mem_in z s₁) t ≡ 0 → ⊥)
-        → 0 < mem_in z s fields.is_queued t
+        : (x : ℕ)
+        → (period_in z (mem_in z s₁) x ≡ 0 → ⊥)
+        → 0 < mem_in z s fields.is_queued x
         → (b : Bool)
-        → eqb (l - 1) t ≡ b
-        → 0 < mem_in z s₂ fields.is_queued t
-    stays t d u true e =
-        let q : l - 1 ≡ t = eqb-true (l - 1) t e in
-        subst (λ (x : ℕ). 0 < mem_in z s₂ fields.is_queued x) q (f.back (λ y. d (ap (period_in z (mem_in z s₁)) (sym q) ∙ y)))
-    stays t d u false e =
-        f.rounds.stays t d (omega (arith, u, p.others t (λ y. eqb-false (l - 1) t e (omega (arith, y)))))
+        → eqb t x ≡ b
+        → 0 < mem_in z s₂ fields.is_queued x
+    stays x d u true e =
+        let q : t ≡ x = eqb-true t x e in
+        subst (λ (y : ℕ). 0 < mem_in z s₂ fields.is_queued y) q (f.back (λ y. d (ap (period_in z (mem_in z s₁)) (sym q) ∙ y)))
+    stays x d u false e =
+        f.rounds.stays x d (omega (arith, u, p.others x (λ y. eqb-false t x e (omega (arith, y)))))
 
 pub due-fired
-    : {z : Sizes} {s s₁ s₂ : List ℕ} {reading l : ℕ}
+    : {z : Sizes} {s s₁ s₂ : List ℕ} {reading t : ℕ}
     → DueAsks z s reading
-    → PoppedDue z s s₁ reading l
-    → (l ≡ 0 → ⊥)
-    → Fired z s₁ s₂ (l - 1)
+    → PoppedDue z s s₁ reading (suc t)
+    → Fired z s₁ s₂ t
     → FiredDue z s s₂ reading true
-due-fired {z} {s} {s₁} {s₂} {reading} {l} a p ne f =
-    let o : OneFired (machine_in z s) (machine_in z s₂) reading = fires_as (subst (PoppedDue z s s₁ reading) (link-suc l ne) p) f in
+due-fired {z} {s} {s₁} {s₂} {reading} {t} a p f =
+    let o : OneFired (machine_in z s) (machine_in z s₂) reading = fires_as p f in
     let k : (Good (machine_in z s₂)) × ((machine_in z s₂).last_now ≡ reading) = one-good (machine_in z s) (machine_in z s₂) reading a.well.good a.last o in
     record {
       again = record { well = record { holds = f.holds 0 (p.holds 0 a.well.holds); good = k.0 }; last = k.1 };
@@ -153,6 +146,6 @@ due-fired {z} {s} {s₁} {s₂} {reading} {l} a p ne f =
       later = λ x. absurd (not-both x);
       fires = λ _. o;
       spares = spares-fewer p.spares p.fewer f.spares (alive-kin f.rounds.kin);
-      fewer = λ g i x. (f.uses (mem_in z s) (p.on (l - 1) (link-suc l ne))).between g i x (p.fewer.fewer g i x);
-      rounds = fired-rounds p ne f;
+      fewer = λ g i x. (f.uses (mem_in z s) (p.on t refl)).between g i x (p.fewer.fewer g i x);
+      rounds = fired-rounds p f;
     }

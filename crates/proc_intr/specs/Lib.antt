@@ -7,4 +7,5 @@ pub mod OneFired
 pub mod Due
 pub mod Owed
 pub mod Interrupt
+pub mod Turn
 pub mod Step

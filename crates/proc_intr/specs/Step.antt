@@ -1,5 +1,5 @@
 -- The step: what the code shows at each return.
-use Rattle.std.specs.Prelude.{◌≡◌, refl, Bool, true, false, ◌||◌, List, ℕ, ◌/◌, ◌^◌, ◌-◌, ◌≤◌, ◌<◌, ltb}
+use Rattle.std.specs.Prelude.{◌≡◌, refl, Bool, true, false, List, ℕ, ◌/◌, ◌^◌, ◌-◌, ◌≤◌, Ok, Err}
 use Rattle.std.proofs.Common.{sym, ap, subst, ◌∙◌, arith, Fits, lt-ltb, le-ltb}
 use Rattle.std.proofs.Math.Option.{none}
 use Rattle.std.specs.Int.{w64}
@@ -12,18 +12,18 @@ use Rattle.machine.specs.Outcome.{Answer, answer}
 use Rattle.machine.specs.Perform.{perform, open_perform}
 use Rattle.machine.specs.StepOf.{left_by}
 use Rattle.machine.specs.Good.{Good}
+use Rattle.kept.specs.Allowed.{now_fits}
 use Rattle.kept.specs.Fine.{fine, good}
 use Rattle.kept.specs.Simple.{fine-accepted}
-use Rattle.state.specs.Fields as fields
-use Rattle.state.specs.Abs.{machine_of}
-use Rattle.state.specs.Places.{mem_in}
 use Rattle.state.specs.declared.Sizes.{Sizes}
 use Rattle.holds.specs.Did.{machine_in}
 use Rattle.holds.specs.Leftover.{alive-kin}
 use Rattle.holds.specs.Touched.{Touched, spares-after}
 use Rattle.clockwork.specs.Stores.{Became}
 use Rattle.clockwork.specs.Clock.{now_stores}
-use Rattle.outcome.specs.declared.Reply.TheVariants.{Fired, Refused}
+use Rattle.clockwork.specs.Reading.{BadNow}
+use Rattle.outcome.specs.declared.Reply.TheVariants.{Fired}
+use Rattle.outcome.specs.declared.Refusal.TheVariants.{BadReading}
 use Rattle.outcome.specs.Means.{means, told}
 use Rattle.outcome.specs.Took.{Took}
 use Rattle.outcome.specs.Stepped.{Well, left_bytes}
@@ -39,29 +39,14 @@ reading_in : (M : Machine) (reading : ℕ) → Fits w64 reading → in_range M.s
 reading_in M reading f = range-intr M.sizes reading ∙ lt-ltb reading (2 ^ 64) (omega (arith, f))
 
 -- Refused: a reading before the last one, or over 2^51 − 1.
-bad-reading : {z : Sizes} {s : List ℕ} {reading : ℕ} → Well z s → Fits w64 reading → bad_now (machine_in z s) reading ≡ true → Took z s s (intr reading) (Refused 8)
+bad-reading : {z : Sizes} {s : List ℕ} {reading : ℕ} → Well z s → Fits w64 reading → bad_now (machine_in z s) reading ≡ true → Took z s s (intr reading) (Err BadReading)
 unfolding left_by left_bytes
 bad-reading {z} {s} {reading} w f e =
     record { stepped = λ k. stepped-refused (refused-intr_8 (machine_in z s) k reading (reading_in (machine_in z s) reading f) e) w.holds refl refl }
 
-or_true : (b : Bool) → (b || true) ≡ true
-or_true true = refl
-or_true false = refl
-
-pub intr_early
-    : {z : Sizes} {s : List ℕ} {reading last : ℕ}
-    → Well z s
-    → Fits w64 reading
-    → last ≡ mem_in z s fields.last_now 0
-    → reading < last
-    → Took z s s (intr reading) (Refused 8)
-unfolding bad_now machine_of
-intr_early {z} {s} {reading} {last} w f e l = bad-reading w f (rw (lt-ltb reading (mem_in z s fields.last_now 0) (omega arith)))
-
-pub intr_late : {z : Sizes} {s : List ℕ} {reading : ℕ} → Well z s → Fits w64 reading → 2251799813685247 < reading → Took z s s (intr reading) (Refused 8)
-unfolding bad_now
-intr_late {z} {s} {reading} w f l =
-    bad-reading w f (rw (lt-ltb (2 ^ 51 - 1) reading (omega arith)) (or_true (ltb reading (machine_in z s).last_now)))
+pub intr_8
+    : {z : Sizes} {s : List ℕ} {reading : ℕ} {b : Bool} → Well z s → Fits w64 reading → BadNow z s reading b → b ≡ true → Took z s s (intr reading) (Err BadReading)
+intr_8 w f b e = bad-reading w f (sym b.answer ∙ e)
 
 -- A reading that is accepted.
 pub record Accepted (z : Sizes) (s : List ℕ) (reading : ℕ) : Type 0 where
@@ -69,9 +54,10 @@ pub record Accepted (z : Sizes) (s : List ℕ) (reading : ℕ) : Type 0 where
   pub after : (machine_in z s).last_now ≤ reading
   pub small : reading ≤ 2251799813685247
 
-accepted : {z : Sizes} {s : List ℕ} {reading last : ℕ} → Well z s → last ≡ mem_in z s fields.last_now 0 → last ≤ reading → reading ≤ 2251799813685247 → Accepted z s reading
-unfolding machine_of
-accepted w e l h = record { well = w; after = omega (arith, e); small = h }
+accepted : {z : Sizes} {s : List ℕ} {reading : ℕ} {b : Bool} → Well z s → BadNow z s reading b → b ≡ false → Accepted z s reading
+accepted {z} {s} {reading} w b e =
+    let h : ((machine_in z s).last_now ≤ reading) × (reading ≤ 2 ^ 51 - 1) = now_fits (machine_in z s) reading (sym b.answer ∙ e) in
+    record { well = w; after = h.0; small = b.small e }
 
 accepted-due
     : {z : Sizes} {s s₁ : List ℕ} {reading : ℕ}
@@ -92,14 +78,13 @@ accepted-due {z} {s} {s₁} {reading} a b =
     }
 
 pub intr-due
-    : {z : Sizes} {s s₁ : List ℕ} {reading last : ℕ}
+    : {z : Sizes} {s s₁ : List ℕ} {reading : ℕ} {x : Bool}
     → Well z s
-    → last ≡ mem_in z s fields.last_now 0
-    → last ≤ reading
-    → reading ≤ 2251799813685247
+    → BadNow z s reading x
+    → x ≡ false
     → Became z s s₁ (now_stores reading) (with_last_now reading (machine_in z s))
     → DueAsks z s₁ reading
-intr-due w e l h b = accepted-due (accepted w e l h) b
+intr-due w n e b = accepted-due (accepted w n e) b
 
 -- What the definition answers, and the machine after it.
 intr-reply : (M : Machine) (reading : ℕ) (f : Firing) → f ≡ interrupt reading (with_last_now reading M) → (perform (intr reading) M).reply ≡ answer (Answer.fired f.count (f.count / 20000))
@@ -123,7 +108,7 @@ intr-done
     → machine_in z s₁ ≡ with_last_now reading (machine_in z s)
     → Touched z s s₁
     → Interrupted z s₁ s₂ reading n
-    → Took z s s₂ (intr reading) (Fired n (n / 20000))
+    → Took z s s₂ (intr reading) (Ok (Fired n (n / 20000)))
 unfolding means told
 intr-done {z} {s} {s₁} {s₂} {reading} {n} a e w i =
     let M : Machine = machine_in z s in
@@ -137,12 +122,11 @@ intr-done {z} {s} {s₁} {s₂} {reading} {n} a e w i =
     }
 
 pub intr-fired
-    : {z : Sizes} {s s₁ s₂ : List ℕ} {reading last n : ℕ}
+    : {z : Sizes} {s s₁ s₂ : List ℕ} {reading n : ℕ} {x : Bool}
     → Well z s
-    → last ≡ mem_in z s fields.last_now 0
-    → last ≤ reading
-    → reading ≤ 2251799813685247
+    → BadNow z s reading x
+    → x ≡ false
     → Became z s s₁ (now_stores reading) (with_last_now reading (machine_in z s))
     → Interrupted z s₁ s₂ reading n
-    → Took z s s₂ (intr reading) (Fired n (n / 20000))
-intr-fired w e l h b i = intr-done (accepted w e l h) b.machine b.touched i
+    → Took z s s₂ (intr reading) (Ok (Fired n (n / 20000)))
+intr-fired w m e b i = intr-done (accepted w m e) b.machine b.touched i

@@ -2,6 +2,7 @@
 #![tactic(auto)]
 
 ghost use Rattle.machine.specs.Step.{intr};
+ghost use Rattle.state.specs.Lent.{Same};
 ghost use Rattle.outcome.specs.Stepped.{Well};
 ghost use Rattle.proc_intr.specs.Twakeup.{TwakeupAsks, Twoken};
 ghost use Rattle.proc_intr.specs.Callback.{CallbackAsks, CalledBack};
@@ -10,93 +11,80 @@ ghost use Rattle.proc_intr.specs.Due.{DueAsks, FiredDue};
 ghost use Rattle.proc_intr.specs.Interrupt.{Interrupted};
 ghost use Rattle.outcome.specs.Took.{Took};
 
-use outcome::Reply;
-use state::{Index, Sizes};
+use outcome::{Refusal, Reply};
+use record::Resume;
+use state::{Index, State, field};
 
 // After how many firings, each time, `interrupt` says that it seems stuck.
 const STUCK_LOOPS: u64 = 20_000;
 
-// Wakes whoever is on the Rendez that the `tsleep` of process `i` names; other calls name none. The link to whom it woke, 0 for none.
-fn twakeup(s: &mut [u8], z: Sizes, i: Index) -> Index
-    requires { TwakeupAsks z s.old i }
-    ensures { Twoken z s.old s.new i result }
+// Wakes whoever is on the Rendez that the `tsleep` of process `i` names; other calls name none.
+fn twakeup(s: &mut State, i: Index)
+    requires { TwakeupAsks s.old.sizes s.old.bytes.now i }
+    ensures same { Same s.old s.new }
+    ensures done { Twoken s.old.sizes s.old.bytes.now s.new.bytes.now i }
 {
-    let call = state::get8(s, z, state::PROCESS, state::RESUME_KIND, i);
-    if call != state::TSLEEP {
-        return 0;
-    }
-    let r = state::get16(s, z, state::PROCESS, state::RESUME_OBJECT, i);
-    dat::wakeup(s, z, r)
+    let call = Resume::load(&s.view(), i);
+    let Resume::Tsleep { rendez, .. } = call else {
+        return;
+    };
+    dat::lent::wakeup(s, rendez);
 }
 
-// What timer `t` does: timer 0 adds a tick, a kernel timer wakes its Rendez, and a process's that of its `tsleep`. The link to whom it
-// woke, 0 for none.
-fn callback(s: &mut [u8], z: Sizes, t: Index) -> Index
-    requires { CallbackAsks z s.old t }
-    ensures { CalledBack z s.old s.new t result }
+// What timer `t` does: timer 0 adds a tick, a kernel timer wakes its Rendez, and a process's that of its `tsleep`.
+fn callback(s: &mut State, t: Index)
+    requires { CallbackAsks s.old.sizes s.old.bytes.now t }
+    ensures same { Same s.old s.new }
+    ensures done { CalledBack s.old.sizes s.old.bytes.now s.new.bytes.now t }
 {
+    let kernel = s.sizes.timers;
     if t == 0 {
-        clockwork::tick(s, z);
-        return 0;
+        clockwork::time::tick(s);
+    } else if kernel <= t {
+        twakeup(s, t - kernel);
+    } else {
+        let r = s.get(field::TIMER_RENDEZ, t);
+        dat::lent::wakeup(s, r);
     }
-    let kernel = z.timers;
-    if kernel <= t {
-        return twakeup(s, z, t - kernel);
-    }
-    let r = state::get16(s, z, state::TIMER, state::TIMER_RENDEZ, t);
-    dat::wakeup(s, z, r)
 }
 
 // Timer `t`, taken off the queue, fires: it does what it does, and a periodic one returns.
-fn fire(s: &mut [u8], z: Sizes, t: Index)
-    requires { FireAsks z s.old t }
-    ensures { Fired z s.old s.new t }
+fn fire(s: &mut State, t: Index)
+    requires { FireAsks s.old.sizes s.old.bytes.now t }
+    ensures same { Same s.old s.new }
+    ensures done { Fired s.old.sizes s.old.bytes.now s.new.bytes.now t }
 {
-    callback(s, z, t);
-    timer::readd(s, z, t);
-}
-
-// Fires the head of the queue where it is due at a reading of the clock: was it?
-fn fire_due(s: &mut [u8], z: Sizes, reading: u64) -> bool
-    requires { DueAsks z s.old reading }
-    ensures { FiredDue z s.old s.new reading result }
-{
-    let link = timer::pop_due(s, z, reading);
-    if link == 0 {
-        return false;
-    }
-    fire(s, z, link - 1);
-    true
+    callback(s, t);
+    timer::by_deadline::readd(s, t);
 }
 
 // Fires the head of the queue while it is due, and counts the firings.
-pub fn interrupt(s: &mut [u8], z: Sizes, reading: u64) -> u64
-    requires { DueAsks z s.old reading }
-    ensures { Interrupted z s.old s.new reading result }
+pub fn interrupt(s: &mut State, reading: u64) -> u64
+    requires { DueAsks s.old.sizes s.old.bytes.now reading }
+    ensures same { Same s.old s.new }
+    ensures done { Interrupted s.old.sizes s.old.bytes.now s.new.bytes.now reading result }
 {
     let mut fired = 0;
-    while fire_due(s, z, reading) {
+    while let Some(t) = timer::by_deadline::pop_due(s, reading) {
+        fire(s, t);
         fired += 1;
     }
     fired
 }
 
 // An interrupt at a reading of the clock, which is not before the last one.
-pub fn intr(s: &mut [u8], z: Sizes, reading: u64) -> Reply
-    requires { Well z s.old }
-    ensures { Took z s.old s.new (intr reading) result }
+pub fn intr(s: &mut State, reading: u64) -> Result<Reply, Refusal>
+    requires { Well s.old.sizes s.old.bytes.now }
+    ensures same { Same s.old s.new }
+    ensures done { Took s.old.sizes s.old.bytes.now s.new.bytes.now (intr reading) result }
 {
-    let last = state::get64(s, z, state::HEADER, state::LAST_NOW, 0);
-    if reading < last {
-        return Reply::Refused { number: 8 };
+    if clockwork::time::bad_now(&s.view(), reading) {
+        return Err(Refusal::BadReading);
     }
-    if clockwork::MOST_NOW < reading {
-        return Reply::Refused { number: 8 };
-    }
-    clockwork::set_now(s, z, reading);
-    let timers = interrupt(s, z, reading);
-    Reply::Fired {
+    clockwork::time::set_now(s, reading);
+    let timers = interrupt(s, reading);
+    Ok(Reply::Fired {
         timers,
         stuck: timers / STUCK_LOOPS,
-    }
+    })
 }

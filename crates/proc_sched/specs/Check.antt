@@ -1,5 +1,5 @@
 -- A woken sleeper checks again: what the code shows at each return.
-use Rattle.std.specs.Prelude.{if◌then◌else◌, ◌≡◌, refl, Bool, true, false, not, List, [], ℕ, ◌+◌, ◌<◌}
+use Rattle.std.specs.Prelude.{if◌then◌else◌, ◌≡◌, refl, Bool, true, false, not, List, [], ℕ, ◌+◌, ◌<◌, Result}
 use Rattle.std.proofs.Common.{sym, ap, subst, ◌∙◌, arith}
 use Rattle.std.proofs.lemmas.Bool.{not-true, not-false}
 use Rattle.machine.specs.Machine.{Machine, pid_of, condition}
@@ -19,6 +19,7 @@ use Rattle.timer.specs.Del.{TimerAsks, Deleted, del_mem}
 use Rattle.timer.specs.Queued.{IsQueued}
 use Rattle.clockwork.specs.Conditions.{Condition}
 use Rattle.outcome.specs.declared.Reply as code
+use Rattle.outcome.specs.declared.Refusal.{Refusal}
 use Rattle.proc_sched.specs.Limbo.{Limbo, Went, RunsOn, AgainAsks, SleptAgain, limbo-low, went-from}
 
 -- The call of i is a `sleep` or `tsleep` on Rendez r, where nobody is if its condition c is false.
@@ -28,7 +29,7 @@ pub record CheckAsks (z : Sizes) (s : List ℕ) (i r c : ℕ) : Type 0 where
   pub index : r < z.rendez
   pub empty : condition (machine_in z s) c ≡ false → mem_in z s fields.sleeper_of r ≡ 0
 
-pub record Checked (z : Sizes) (s s' : List ℕ) (i r c : ℕ) (a : code.Reply) : Type 0 where
+pub record Checked (z : Sizes) (s s' : List ℕ) (i r c : ℕ) (a : Result code.Reply Refusal) : Type 0 where
   pub went : Went z s s' (checks_again (condition (machine_in z s) c) i r (machine_in z s)) [] a
 
 pub check-owing : {z : Sizes} {s : List ℕ} {i r c : ℕ} → CheckAsks z s i r c → Owing z s
@@ -39,7 +40,7 @@ unfolding checks_again
 runs-true m i r = refl
 
 pub check-runs
-    : {z : Sizes} {s s₁ : List ℕ} {i r c : ℕ} {t : Bool} {a : code.Reply}
+    : {z : Sizes} {s s₁ : List ℕ} {i r c : ℕ} {t : Bool} {a : Result code.Reply Refusal}
     → CheckAsks z s i r c → Condition z s c t → t ≡ true → RunsOn z s s₁ i a → Checked z s s₁ i r c a
 check-runs {z} {s} {s₁} {i} {r} {c} {t} {a} k h e o =
     record {
@@ -53,7 +54,7 @@ pub check-again
 check-again k h e = record { limbo = k.limbo; call = k.call; index = k.index; empty = k.empty (sym h.answer ∙ e) }
 
 pub check-sleeps
-    : {z : Sizes} {s s₁ : List ℕ} {i r c : ℕ} {t : Bool} {a : code.Reply}
+    : {z : Sizes} {s s₁ : List ℕ} {i r c : ℕ} {t : Bool} {a : Result code.Reply Refusal}
     → CheckAsks z s i r c → Condition z s c t → t ≡ false → SleptAgain z s s₁ i r a → Checked z s s₁ i r c a
 check-sleeps {z} {s} {s₁} {i} {r} {c} {t} {a} k h e o =
     record {
@@ -62,7 +63,7 @@ check-sleeps {z} {s} {s₁} {i} {r} {c} {t} {a} k h e o =
     }
 
 -- The `tsleep` of i returns: its timer is removed.
-pub record TimedOut (z : Sizes) (s s' : List ℕ) (i : ℕ) (a : code.Reply) : Type 0 where
+pub record TimedOut (z : Sizes) (s s' : List ℕ) (i : ℕ) (a : Result code.Reply Refusal) : Type 0 where
   pub went
       : Went z s s'
       (runs i (Answer.run (pid_of (delete (own_timer i (machine_in z s)) (machine_in z s)) i)) (delete (own_timer i (machine_in z s)) (machine_in z s))) [] a
@@ -93,7 +94,7 @@ out_limbo {z} {s} {s₁} {i} {t} l d =
     }
 
 pub out_runs
-    : {z : Sizes} {s s₁ s₂ : List ℕ} {i : ℕ} {a : code.Reply}
+    : {z : Sizes} {s s₁ s₂ : List ℕ} {i : ℕ} {a : Result code.Reply Refusal}
     → Limbo z s i → Deleted z s s₁ (z.timers + i) → RunsOn z s₁ s₂ i a → TimedOut z s s₂ i a
 out_runs {z} {s} {s₁} {s₂} {i} {a} l d o =
     record {
@@ -111,7 +112,7 @@ pub record TsleepAsks (z : Sizes) (s : List ℕ) (i r c : ℕ) : Type 0 where
   pub empty : is_queued (own_timer i (machine_in z s)) (machine_in z s) ≡ true → condition (machine_in z s) c ≡ false → mem_in z s fields.sleeper_of r ≡ 0
 
 -- The whole of a `tsleep`'s check.
-pub record TsleepChecked (z : Sizes) (s s' : List ℕ) (i r c : ℕ) (a : code.Reply) : Type 0 where
+pub record TsleepChecked (z : Sizes) (s s' : List ℕ) (i r c : ℕ) (a : Result code.Reply Refusal) : Type 0 where
   pub went
       : Went z s s'
       (tsleep_checks (if is_queued (own_timer i (machine_in z s)) (machine_in z s) then condition (machine_in z s) c else true) i r (machine_in z s)) [] a
@@ -148,19 +149,19 @@ tsleep-again {i = i} {q = q} k h d g e =
     }
 
 pub tsleep-fired
-    : {z : Sizes} {s s₁ : List ℕ} {i r c : ℕ} {q : Bool} {a : code.Reply}
+    : {z : Sizes} {s s₁ : List ℕ} {i r c : ℕ} {q : Bool} {a : Result code.Reply Refusal}
     → TsleepAsks z s i r c → IsQueued z s (z.timers + i) q → not q ≡ true → TimedOut z s s₁ i a → TsleepChecked z s s₁ i r c a
 tsleep-fired {z} {s} {s₁} {i} {r} {c} {q} {a} k h e o =
     record { went = rw (own-queued i h ∙ not-true q e, timed (machine_in z s) i r) o.went }
 
 pub tsleep-true
-    : {z : Sizes} {s s₁ : List ℕ} {i r c : ℕ} {q t : Bool} {a : code.Reply}
+    : {z : Sizes} {s s₁ : List ℕ} {i r c : ℕ} {q t : Bool} {a : Result code.Reply Refusal}
     → TsleepAsks z s i r c → IsQueued z s (z.timers + i) q → not q ≡ false → Condition z s c t → t ≡ true → TimedOut z s s₁ i a → TsleepChecked z s s₁ i r c a
 tsleep-true {z} {s} {s₁} {i} {r} {c} {q} {t} {a} k h e g d o =
     record { went = rw (own-queued i h ∙ not-false q e, sym g.answer ∙ d, timed (machine_in z s) i r) o.went }
 
 pub tsleep-sleeps
-    : {z : Sizes} {s s₁ : List ℕ} {i r c : ℕ} {q t : Bool} {a : code.Reply}
+    : {z : Sizes} {s s₁ : List ℕ} {i r c : ℕ} {q t : Bool} {a : Result code.Reply Refusal}
     → TsleepAsks z s i r c → IsQueued z s (z.timers + i) q → not q ≡ false → Condition z s c t → t ≡ false → SleptAgain z s s₁ i r a → TsleepChecked z s s₁ i r c a
 tsleep-sleeps {z} {s} {s₁} {i} {r} {c} {q} {t} {a} k h e g d o =
     record { went = rw (own-queued i h ∙ not-false q e, sym g.answer ∙ d, untimed (machine_in z s) i r) o.went }

@@ -1,5 +1,5 @@
 -- The first in line: what the code of `sched_first` shows at each return.
-use Rattle.std.specs.Prelude.{◌≡◌, Bool, true, List, [], ◌∷◌, ℕ, ◌<◌}
+use Rattle.std.specs.Prelude.{◌≡◌, Bool, true, List, [], ◌∷◌, ℕ, ◌<◌, Result, Err}
 use Rattle.std.proofs.Math.Path.{refl, sym, ap}
 use Rattle.std.proofs.Common.{subst, ◌∙◌, arith}
 use Rattle.std.proofs.Math.Bool.{false}
@@ -26,12 +26,13 @@ use Rattle.holds.specs.Whole.{holds-bounds}
 use Rattle.holds.specs.Did.{machine_in}
 use Rattle.places.specs.Nowhere.{state-used}
 use Rattle.outcome.specs.declared.Reply as code
-use Rattle.outcome.specs.declared.Reply.TheVariants.{Refused}
+use Rattle.outcome.specs.declared.Refusal.{Refusal}
+use Rattle.outcome.specs.declared.Refusal.TheVariants.{RendezTaken}
 use Rattle.outcome.specs.Means.{told, status_of}
 use Rattle.outcome.specs.Stepped.{left_bytes}
 use Rattle.outcome.specs.Laws.{stepped-done, stepped-refused}
 use Rattle.outcome.specs.RefusalsRun.{refused-sched_5, allowed-sched, head_first}
-use Rattle.proc_sleep.specs.Running.{nobody-up}
+use Rattle.outcome.specs.Running.{nobody-up}
 use Rattle.proc_sched.specs.Taken.{TakenAgainAsks, TakenAgain}
 use Rattle.proc_sched.specs.Turn.{TurnAsks, Turned, head-link, call-range}
 use Rattle.proc_sched.specs.Sched.{SchedTook, FirstAsks, sched-done}
@@ -66,7 +67,7 @@ module _ {z : Sizes} {s : List ℕ} {i : ℕ} {b : List ℕ} (a : FirstAsks z s 
       state-used a.well.holds.keeps.placed i (omega (arith, r))
 
   up : (machine_in z s).up ≡ none
-  up = nobody-up z s 0 (sym a.idle) refl
+  up = nobody-up z s a.idle
 
   run : (machine_in z s).run ≡ i ∷ line.rest
   unfolding machine_of
@@ -87,7 +88,7 @@ module _ {z : Sizes} {s : List ℕ} {i : ℕ} {b : List ℕ} (a : FirstAsks z s 
           range = subst (ResumeInRange (sizes_in z)) (sym call) (call-range i a.well first-low);
         }
 
-    pub first_taken : {t : Bool} → TakenAgain z s i c t → t ≡ true → SchedTook z s s false b b (Refused 5)
+    pub first_taken : {t : Bool} → TakenAgain z s i c t → t ≡ true → SchedTook z s s false b b (Err RendezTaken)
     unfolding left_by left_bytes
     first_taken g e =
         record {
@@ -102,7 +103,7 @@ module _ {z : Sizes} {s : List ℕ} {i : ℕ} {b : List ℕ} (a : FirstAsks z s 
         record { well = a.well; idle = a.idle; first = a.first; call = call; free = sym g.answer ∙ e; room = a.room }
 
     pub first-turned
-        : {t : Bool} {s₁ b₁ : List ℕ} {r : code.Reply} → TakenAgain z s i c t → t ≡ false → Turned z s s₁ b b₁ r → SchedTook z s s₁ false b b₁ r
+        : {t : Bool} {s₁ b₁ : List ℕ} {r : Result code.Reply Refusal} → TakenAgain z s i c t → t ≡ false → Turned z s s₁ b b₁ r → SchedTook z s s₁ false b b₁ r
     unfolding status_of
     first-turned g e w =
         let o : sched_of (machine_in z s) ≡ perform sched (machine_in z s) = sym (sched-done (machine_in z s)) in

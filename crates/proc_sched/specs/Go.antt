@@ -1,5 +1,5 @@
 -- The dispatched process goes on where its call left off: what the code shows at each return.
-use Rattle.std.specs.Prelude.{◌≡◌, refl, Bool, ◌&&◌, ℕ, zero, suc, ◌≤◌, length, drop, List, [], ◌++◌}
+use Rattle.std.specs.Prelude.{◌≡◌, refl, Bool, ◌&&◌, ℕ, zero, suc, ◌≤◌, length, drop, List, [], ◌++◌, Result}
 use Rattle.std.proofs.Common.{sym, ap, ◌∙◌, arith}
 use Rattle.std.proofs.Math.Path.{subst}
 use Rattle.std.proofs.Math.Bool.{false}
@@ -24,6 +24,7 @@ use Rattle.holds.specs.Whole.{holds-bounds}
 use Rattle.holds.specs.Did.{machine_in}
 use Rattle.places.specs.Rendez.{CallsRendez}
 use Rattle.outcome.specs.declared.Reply as code
+use Rattle.outcome.specs.declared.Refusal.{Refusal}
 use Rattle.outcome.specs.RefusalsRun.{taken-there}
 use Rattle.proc_sched.specs.Limbo.{Limbo, Went, RunsOn}
 use Rattle.proc_sched.specs.Check.{CheckAsks, Checked, TsleepAsks, TsleepChecked}
@@ -38,7 +39,7 @@ pub record GoAsks (z : Sizes) (s : List ℕ) (i : ℕ) (c : Resume) (b : List �
   pub room : 127 ≤ length b
 
 -- It has gone on there, and its message, if any, stands at the front of the buffer.
-pub record WentOn (z : Sizes) (s s' : List ℕ) (i : ℕ) (c : Resume) (b b' : List ℕ) (a : code.Reply) : Type 0 where
+pub record WentOn (z : Sizes) (s s' : List ℕ) (i : ℕ) (c : Resume) (b b' : List ℕ) (a : Result code.Reply Refusal) : Type 0 where
   pub message : List ℕ
   pub went : Went z s s' (resumes (meaning c) i (machine_in z s)) message a
   pub buffer : b' ≡ message ++ drop (length message) b
@@ -111,7 +112,7 @@ module _ {z : Sizes} {s : List ℕ} {i : ℕ} {c : Resume} {b : List ℕ} (k : G
       }
 
 -- What each case of the call shows.
-module _ {z : Sizes} {s s₁ : List ℕ} {i : ℕ} {c : Resume} {b : List ℕ} {a : code.Reply} where
+module _ {z : Sizes} {s s₁ : List ℕ} {i : ℕ} {c : Resume} {b : List ℕ} {a : Result code.Reply Refusal} where
   pub went-nothing : GoAsks z s i c b → c ≡ Nothing → RunsOn z s s₁ i a → WentOn z s s₁ i c b b a
   unfolding resumes
   went-nothing k e o =

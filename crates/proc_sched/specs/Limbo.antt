@@ -1,5 +1,5 @@
 -- A process that was taken off the run queue: it runs, or sleeps on its Rendez again.
-use Rattle.std.specs.Prelude.{◌≡◌, refl, false, List, [], ◌∷◌, ℕ, zero, suc, ◌<◌, length, get_or, set}
+use Rattle.std.specs.Prelude.{◌≡◌, refl, false, List, [], ◌∷◌, ℕ, zero, suc, ◌<◌, length, get_or, set, Result, Ok}
 use Rattle.std.proofs.Common.{sym, ap, ◌∙◌, arith}
 use Rattle.std.proofs.Math.Option.{none, some}
 use Rattle.machine.specs.Machine as machine
@@ -29,6 +29,7 @@ use Rattle.dat.specs.Rendez.{SleepAsks, Slept}
 use Rattle.outcome.specs.Length.{length_of}
 use Rattle.outcome.specs.declared.Reply as code
 use Rattle.outcome.specs.declared.Reply.TheVariants.{Run, Asleep}
+use Rattle.outcome.specs.declared.Refusal.{Refusal}
 use Rattle.outcome.specs.Means.{means, told}
 
 -- Nobody runs; i is in no place and not marked asleep; and there is room in the count of those asleep.
@@ -63,7 +64,7 @@ pub limbo-low : {z : Sizes} {s : List ℕ} {i : ℕ} → Limbo z s i → i < z.p
 limbo-low {i = i} l = inside (holds-bounds l.holds) fields.pid i l.nowhere.used
 
 -- The outcome o, as the code has it: reply, message told, and machine.
-pub record Went (z : Sizes) (s s' : List ℕ) (o : Outcome) (m : List ℕ) (r : code.Reply) : Type 0 where
+pub record Went (z : Sizes) (s s' : List ℕ) (o : Outcome) (m : List ℕ) (r : Result code.Reply Refusal) : Type 0 where
   pub holds : Holds z s' 0
   pub reply : means r m [] ≡ o.reply
   pub told : m ≡ told o.reply
@@ -74,7 +75,7 @@ pub record Went (z : Sizes) (s s' : List ℕ) (o : Outcome) (m : List ℕ) (r : 
 
 -- The same, from before what was written first.
 pub went-from
-    : {z : Sizes} {s s₁ s₂ : List ℕ} {o : Outcome} {m : List ℕ} {r : code.Reply}
+    : {z : Sizes} {s s₁ s₂ : List ℕ} {o : Outcome} {m : List ℕ} {r : Result code.Reply Refusal}
     → Spares z s s₁
     → Fewer z (mem_in z s) (mem_in z s₁)
     → Went z s₁ s₂ o m r
@@ -90,11 +91,11 @@ went-from t u w =
       kin = kin_join u.kin w.kin;
     }
 
-pub record RunsOn (z : Sizes) (s s' : List ℕ) (i : ℕ) (r : code.Reply) : Type 0 where
+pub record RunsOn (z : Sizes) (s s' : List ℕ) (i : ℕ) (r : Result code.Reply Refusal) : Type 0 where
   pub went : Went z s s' (runs i (Answer.run (pid_of (machine_in z s) i)) (machine_in z s)) [] r
 
 pub runs_on
-    : {z : Sizes} {s s₁ : List ℕ} {i p : ℕ} → Limbo z s i → p ≡ mem_in z s fields.pid i → Dispatched z s s₁ i → RunsOn z s s₁ i (Run p)
+    : {z : Sizes} {s s₁ : List ℕ} {i p : ℕ} → Limbo z s i → p ≡ mem_in z s fields.pid i → Dispatched z s s₁ i → RunsOn z s s₁ i (Ok (Run p))
 unfolding open_perform open_outcome means told
 runs_on {z} {s} {s₁} {i} {p} l e d =
     let q : p ≡ pid_of (machine_in z s) i = e ∙ sym (pid_of_lem (holds-bounds l.holds) i) in
@@ -118,7 +119,7 @@ pub record AgainAsks (z : Sizes) (s : List ℕ) (i r : ℕ) : Type 0 where
   pub index : r < z.rendez
   pub empty : mem_in z s fields.sleeper_of r ≡ 0
 
-pub record SleptAgain (z : Sizes) (s s' : List ℕ) (i r : ℕ) (a : code.Reply) : Type 0 where
+pub record SleptAgain (z : Sizes) (s s' : List ℕ) (i r : ℕ) (a : Result code.Reply Refusal) : Type 0 where
   pub went : Went z s s' (checks_again false i r (machine_in z s)) [] a
 
 pub again-asks : {z : Sizes} {s : List ℕ} {i r : ℕ} → AgainAsks z s i r → SleepAsks z s i r
@@ -166,7 +167,7 @@ sleeps-same : (m : Machine) (i r : ℕ) → m.up ≡ none → sleep_on i r (proc
 unfolding sleep_on with_sleeper with_up with_process with_resume
 sleeps-same m i r u = ap (with_sleeper r (some i)) (stays m i u)
 
-pub slept-again : {z : Sizes} {s s₁ : List ℕ} {i r : ℕ} → AgainAsks z s i r → Slept z s s₁ i r → SleptAgain z s s₁ i r Asleep
+pub slept-again : {z : Sizes} {s s₁ : List ℕ} {i r : ℕ} → AgainAsks z s i r → Slept z s s₁ i r → SleptAgain z s s₁ i r (Ok Asleep)
 unfolding open_perform open_outcome means told
 slept-again {z} {s} {s₁} {i} {r} a p =
     let y : Touched z s s₁ = touched-did p.did (same_use refl refl refl refl refl refl refl refl refl) in

@@ -1,12 +1,13 @@
 -- Whether a woken sleeper would sleep again where another is asleep: what the code shows at each return.
-use Rattle.std.specs.Prelude.{◌≡◌, Bool, true, false, not, List, ℕ, zero, suc, ◌+◌, ◌<◌}
+use Rattle.std.specs.Prelude.{◌≡◌, Option, None, Some, is_some, Bool, true, false, not, List, ℕ, ◌+◌, ◌<◌}
 use Rattle.std.proofs.Math.Path.{refl}
-use Rattle.std.proofs.Common.{sym, ap, subst, ◌∙◌, arith, ne_eqb}
+use Rattle.std.proofs.Common.{sym, ap, subst, ◌∙◌, arith}
 use Rattle.std.proofs.lemmas.Bool.{not-true, not-false}
+use Rattle.memory.specs.Link.{link}
 use Rattle.machine.specs.Good.{ResumeInRange}
 use Rattle.machine.specs.Table as table
 use Rattle.state.specs.Fields as fields
-use Rattle.state.specs.Abs.{link_to, is_set}
+use Rattle.state.specs.Abs.{link_to}
 use Rattle.state.specs.Places.{sizes_in, mem_in}
 use Rattle.state.specs.declared.Sizes.{Sizes}
 use Rattle.record.specs.declared.Resume.{Resume}
@@ -34,19 +35,13 @@ pub taken_yes : {z : Sizes} {s : List ℕ} {r c : ℕ} {t : Bool} → TakenAsks 
 taken_yes {z} {s} {r} {c} a h e = record { answer = sym (taken_true (machine_in z s) r c (sym h.answer ∙ e)) }
 
 pub taken-no
-    : {z : Sizes} {s : List ℕ} {r c l : ℕ} {t : Bool}
-    → TakenAsks z s r → Condition z s c t → t ≡ false → l ≡ mem_in z s fields.sleeper_of r → Taken z s r c (is_set l)
-taken-no {z} {s} {r} {c} {l} a h e d = go l d
+    : {z : Sizes} {s : List ℕ} {r c : ℕ} {t b : Bool} (o : Option ℕ)
+    → TakenAsks z s r → Condition z s c t → t ≡ false → link o ≡ mem_in z s fields.sleeper_of r → b ≡ is_some o → Taken z s r c b
+taken-no {z} {s} {r} {c} o a h e d q = record { answer = q ∙ go o d }
   where
-    go : (l : ℕ) → l ≡ mem_in z s fields.sleeper_of r → Taken z s r c (is_set l)
-    go zero q =
-        record { answer = sym (taken_free (machine_in z s) r c (sleeper_of_lem (holds-bounds a.holds) r ∙ ap link_to (sym q))) }
-    go (suc j) q =
-        record {
-          answer =
-              ap (λ (x : Bool). not x) (ne_eqb (suc j) 0 (λ x. omega (arith, x)))
-              ∙ sym (taken-there (machine_in z s) r c (sym h.answer ∙ e) (sleeper_of_lem (holds-bounds a.holds) r ∙ ap link_to (sym q)));
-        }
+    go : (o : Option ℕ) → link o ≡ mem_in z s fields.sleeper_of r → is_some o ≡ table.taken (machine_in z s) r c
+    go None f = sym (taken_free (machine_in z s) r c (sleeper_of_lem (holds-bounds a.holds) r ∙ ap link_to (sym f)))
+    go (Some j) f = sym (taken-there (machine_in z s) r c (sym h.answer ∙ e) (sleeper_of_lem (holds-bounds a.holds) r ∙ ap link_to (sym f)))
 
 -- There is a record i, and its call is in range.
 pub record TakenAgainAsks (z : Sizes) (s : List ℕ) (i : ℕ) (c : Resume) : Type 0 where

@@ -1,5 +1,5 @@
 -- The first of the run queue is taken off, gets its quantum and goes on: what the code shows.
-use Rattle.std.specs.Prelude.{◌≡◌, refl, false, List, ◌∷◌, ◌++◌, ℕ, suc, ◌+◌, ◌-◌, ◌≤◌, ◌<◌, length, drop}
+use Rattle.std.specs.Prelude.{◌≡◌, refl, false, List, ◌∷◌, ◌++◌, ℕ, suc, ◌+◌, ◌-◌, ◌≤◌, ◌<◌, length, drop, Result}
 use Rattle.std.proofs.Common.{sym, ap, ap₂, subst, ◌∙◌, arith}
 use Rattle.machine.specs.Machine as machine
 use Rattle.machine.specs.Machine.{Machine, free, process}
@@ -29,6 +29,7 @@ use Rattle.dat.specs.Run.{NextAsks, NextOne, NextTaken}
 use Rattle.clockwork.specs.Quantum.{QuantumAsks, quantum_stores, dispatched}
 use Rattle.clockwork.specs.Stores.{Became}
 use Rattle.outcome.specs.declared.Reply as code
+use Rattle.outcome.specs.declared.Refusal.{Refusal}
 use Rattle.outcome.specs.Stepped.{Well}
 use Rattle.outcome.specs.Room.{well-room}
 use Rattle.proc_sched.specs.Limbo.{Limbo, Went, went-from}
@@ -45,7 +46,7 @@ pub record TurnAsks (z : Sizes) (s : List ℕ) (i : ℕ) (c : Resume) (b : List 
   pub room : 127 ≤ length b
 
 -- One turn of the scheduler; the message, if any, stands at the front of the buffer.
-pub record Turned (z : Sizes) (s s' b b' : List ℕ) (a : code.Reply) : Type 0 where
+pub record Turned (z : Sizes) (s s' b b' : List ℕ) (a : Result code.Reply Refusal) : Type 0 where
   pub message : List ℕ
   pub went : Went z s s' (sched_of (machine_in z s)) message a
   pub buffer : b' ≡ message ++ drop (length message) b
@@ -162,7 +163,7 @@ module _ {z : Sizes} {s s₁ : List ℕ} {i l : ℕ} {c : Resume} {b : List ℕ}
     begun : Touched z s s₂
     begun = touched_join (touched-did one.did (same_use refl refl refl refl refl refl refl refl refl)) q.touched
 
-    pub turned : {s₃ b₁ : List ℕ} {r : code.Reply} → WentOn z s₂ s₃ i c b b₁ r → Turned z s s₃ b b₁ r
+    pub turned : {s₃ b₁ : List ℕ} {r : Result code.Reply Refusal} → WentOn z s₂ s₃ i c b b₁ r → Turned z s s₃ b b₁ r
     turned {s₃} {b₁} {r} w =
         record {
           message = w.message;

@@ -1,5 +1,5 @@
 -- A process woken from its `wait`: what the code shows at each return.
-use Rattle.std.specs.Prelude.{◌≡◌, refl, true, false, List, [], ◌∷◌, ◌++◌, ℕ, ◌-◌, ◌≤◌, ◌<◌, length, take, drop, set}
+use Rattle.std.specs.Prelude.{◌≡◌, refl, true, false, List, [], ◌∷◌, ◌++◌, ℕ, ◌-◌, ◌≤◌, ◌<◌, length, take, drop, set, Result, Ok}
 use Rattle.std.proofs.Common.{sym, ap, ap₂, subst, ◌∙◌, arith}
 use Rattle.std.proofs.Math.Option.{none, some}
 use Rattle.std.proofs.Math.Seq.{take-length}
@@ -28,6 +28,7 @@ use Rattle.waitq.specs.Take.{take_mem}
 use Rattle.waitq.specs.Marks.{exits-number}
 use Rattle.outcome.specs.declared.Reply as code
 use Rattle.outcome.specs.declared.Reply.TheVariants.{RunChild, Asleep}
+use Rattle.outcome.specs.declared.Refusal.{Refusal}
 use Rattle.outcome.specs.Means.{means, told}
 use Rattle.proc_wait.specs.declared.Gone.{Gone}
 use Rattle.proc_wait.specs.Wait.{ChildAsks, TookChild}
@@ -40,7 +41,7 @@ pub record FinishAsks (z : Sizes) (s : List ℕ) (i : ℕ) (b : List ℕ) : Type
   pub room : 127 ≤ length b
 
 -- It runs, and its `wait` gives the newest exit, whose message stands at the front of the buffer.
-pub record WaitFinished (z : Sizes) (s s' : List ℕ) (i : ℕ) (b b' : List ℕ) (a : code.Reply) : Type 0 where
+pub record WaitFinished (z : Sizes) (s s' : List ℕ) (i : ℕ) (b b' : List ℕ) (a : Result code.Reply Refusal) : Type 0 where
   pub went
       : Went z s s'
       (runs i
@@ -78,7 +79,7 @@ pub finished
     → p ≡ mem_in z s fields.pid i
     → TookChild z s s₁ i b b₁ g
     → Dispatched z s₁ s₂ i
-    → WaitFinished z s s₂ i b b₁ (RunChild p g.pid g.length)
+    → WaitFinished z s s₂ i b b₁ (Ok (RunChild p g.pid g.length))
 unfolding open_perform open_outcome means told
 finished {z} {s} {s₁} {s₂} {i} {p} {b} {b₁} {g} f e t d =
     let x : Process = process (machine_in z s) i in
@@ -109,7 +110,7 @@ pub record WaitCheckAsks (z : Sizes) (s : List ℕ) (i : ℕ) (b : List ℕ) : T
   pub call : mem_in z s fields.resume_kind i ≡ 4
   pub room : 127 ≤ length b
 
-pub record WaitChecked (z : Sizes) (s s' : List ℕ) (i : ℕ) (b b' : List ℕ) (a : code.Reply) : Type 0 where
+pub record WaitChecked (z : Sizes) (s s' : List ℕ) (i : ℕ) (b b' : List ℕ) (a : Result code.Reply Refusal) : Type 0 where
   pub message : List ℕ
   pub went : Went z s s' (wait_checks i (machine_in z s)) message a
   pub buffer : b' ≡ message ++ drop (length message) b
@@ -171,7 +172,7 @@ again m i u e =
 
 pub wait-slept
     : {z : Sizes} {s s₁ : List ℕ} {i n : ℕ} {b : List ℕ}
-    → WaitCheckAsks z s i b → n ≡ mem_in z s fields.nexits i → n ≡ 0 → Waited z s s₁ i → WaitChecked z s s₁ i b b Asleep
+    → WaitCheckAsks z s i b → n ≡ mem_in z s fields.nexits i → n ≡ 0 → Waited z s s₁ i → WaitChecked z s s₁ i b b (Ok Asleep)
 unfolding means told
 wait-slept {z} {s} {s₁} {i} {n} {b} a e d w =
     let q : ((wait_checks i (machine_in z s)).reply ≡ answer Answer.asleep) × ((wait_checks i (machine_in z s)).after ≡ sleep_on_waitr i machine.in_wait (machine_in z s)) =
@@ -197,7 +198,7 @@ pub wait-finish : {z : Sizes} {s : List ℕ} {i n : ℕ} {b : List ℕ} → Wait
 wait-finish a e ne = record { limbo = a.limbo; some = omega (arith, e, ne); room = a.room }
 
 pub wait-finished
-    : {z : Sizes} {s s₁ : List ℕ} {i n : ℕ} {b b₁ : List ℕ} {r : code.Reply}
+    : {z : Sizes} {s s₁ : List ℕ} {i n : ℕ} {b b₁ : List ℕ} {r : Result code.Reply Refusal}
     → WaitCheckAsks z s i b → n ≡ mem_in z s fields.nexits i → (n ≡ 0 → ⊥) → WaitFinished z s s₁ i b b₁ r → WaitChecked z s s₁ i b b₁ r
 wait-finished {z} {s} {s₁} {i} {n} {b} {b₁} {r} a e ne f =
     record {

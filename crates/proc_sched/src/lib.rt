@@ -1,7 +1,8 @@
 // One turn of the scheduler: the first of the run queue is dispatched, and goes on where its call left off.
 #![tactic(auto)]
 
-ghost use Rattle.std.specs.Prelude.{false};
+ghost use Rattle.std.specs.Prelude.{false, Ok};
+ghost use Rattle.state.specs.Lent.{Same};
 ghost use Rattle.proc_sched.specs.Limbo.{Limbo, Dispatched, RunsOn, AgainAsks, SleptAgain};
 ghost use Rattle.proc_sched.specs.Check.{CheckAsks, Checked, TimedOut, TsleepAsks, TsleepChecked};
 ghost use Rattle.proc_sched.specs.Go.{GoAsks, WentOn};
@@ -10,85 +11,91 @@ ghost use Rattle.proc_sched.specs.Turn.{TurnAsks, Turned};
 ghost use Rattle.proc_sched.specs.Sched.{RestAsks, Rested, FirstAsks, SchedAsks, SchedTook};
 ghost use Rattle.proc_sched.specs.Waits.{WaitCheckAsks, WaitFinished, WaitChecked, FinishAsks};
 
-use outcome::Reply;
+use outcome::{Refusal, Reply};
 use record::Resume;
-use state::{Count, Index, Sizes};
+use state::{Index, State, View, field};
 
 // Process `i`, taken off the run queue, runs: its call has returned.
-fn dispatch(s: &mut [u8], z: Sizes, i: Index)
-    requires { Limbo z s.old i }
-    ensures { Dispatched z s.old s.new i }
+fn dispatch(s: &mut State, i: Index)
+    requires { Limbo s.old.sizes s.old.bytes.now i }
+    ensures same { Same s.old s.new }
+    ensures done { Dispatched s.old.sizes s.old.bytes.now s.new.bytes.now i }
 {
-    dat::set_resume(s, z, i, Resume::Nothing);
-    dat::set_up(s, z, i);
+    dat::lent::set_resume(s, i, Resume::Nothing);
+    dat::lent::set_up(s, i);
 }
 
 // The same, with the answer that it runs.
-fn run_on(s: &mut [u8], z: Sizes, i: Index) -> Reply
-    requires { Limbo z s.old i }
-    ensures { RunsOn z s.old s.new i result }
+fn run_on(s: &mut State, i: Index) -> Reply
+    requires { Limbo s.old.sizes s.old.bytes.now i }
+    ensures same { Same s.old s.new }
+    ensures done { RunsOn s.old.sizes s.old.bytes.now s.new.bytes.now i (Ok result) }
 {
-    let pid = state::get64(s, z, state::PROCESS, state::PID, i);
-    dispatch(s, z, i);
+    let pid = s.get(field::PID, i);
+    dispatch(s, i);
     Reply::Run { pid }
 }
 
 // Process `i` sleeps on Rendez `r` again.
-fn sleep_again(s: &mut [u8], z: Sizes, i: Index, r: Index) -> Reply
-    requires { AgainAsks z s.old i r }
-    ensures { SleptAgain z s.old s.new i r result }
+fn sleep_again(s: &mut State, i: Index, r: Index) -> Reply
+    requires { AgainAsks s.old.sizes s.old.bytes.now i r }
+    ensures same { Same s.old s.new }
+    ensures done { SleptAgain s.old.sizes s.old.bytes.now s.new.bytes.now i r (Ok result) }
 {
-    dat::sleep_on(s, z, i, r);
+    dat::lent::sleep_on(s, i, r);
     Reply::Asleep
 }
 
 // Process `i`, woken from a `sleep` on Rendez `r`, looks at condition `c` again.
-fn check_sleep(s: &mut [u8], z: Sizes, i: Index, r: Index, c: u8) -> Reply
-    requires { CheckAsks z s.old i r c }
-    ensures { Checked z s.old s.new i r c result }
+fn check_sleep(s: &mut State, i: Index, r: Index, c: u8) -> Reply
+    requires { CheckAsks s.old.sizes s.old.bytes.now i r c }
+    ensures same { Same s.old s.new }
+    ensures done { Checked s.old.sizes s.old.bytes.now s.new.bytes.now i r c (Ok result) }
 {
-    let holds = clockwork::condition(s, z, c);
-    if holds {
-        return run_on(s, z, i);
+    if clockwork::conditions::holds(&s.view(), c) {
+        return run_on(s, i);
     }
-    sleep_again(s, z, i, r)
+    sleep_again(s, i, r)
 }
 
 // The `tsleep` of process `i` returns: its timer is removed, and it runs.
-fn return_tsleep(s: &mut [u8], z: Sizes, i: Index) -> Reply
-    requires { Limbo z s.old i }
-    ensures { TimedOut z s.old s.new i result }
+fn return_tsleep(s: &mut State, i: Index) -> Reply
+    requires { Limbo s.old.sizes s.old.bytes.now i }
+    ensures same { Same s.old s.new }
+    ensures done { TimedOut s.old.sizes s.old.bytes.now s.new.bytes.now i (Ok result) }
 {
-    let kernel = z.timers;
-    timer::del(s, z, kernel + i);
-    run_on(s, z, i)
+    let kernel = s.sizes.timers;
+    timer::by_deadline::del(s, kernel + i);
+    run_on(s, i)
 }
 
 // The same for a `tsleep`, which also returns once its timer has fired.
-fn check_tsleep(s: &mut [u8], z: Sizes, i: Index, r: Index, c: u8) -> Reply
-    requires { TsleepAsks z s.old i r c }
-    ensures { TsleepChecked z s.old s.new i r c result }
+fn check_tsleep(s: &mut State, i: Index, r: Index, c: u8) -> Reply
+    requires { TsleepAsks s.old.sizes s.old.bytes.now i r c }
+    ensures same { Same s.old s.new }
+    ensures done { TsleepChecked s.old.sizes s.old.bytes.now s.new.bytes.now i r c (Ok result) }
 {
-    let kernel = z.timers;
-    let queued = timer::is_queued(s, z, kernel + i);
+    let v = s.view();
+    let kernel = v.sizes.timers;
+    let queued = timer::by_deadline::is_queued(&v, kernel + i);
     if !queued {
-        return return_tsleep(s, z, i);
+        return return_tsleep(s, i);
     }
-    let holds = clockwork::condition(s, z, c);
-    if holds {
-        return return_tsleep(s, z, i);
+    if clockwork::conditions::holds(&v, c) {
+        return return_tsleep(s, i);
     }
-    sleep_again(s, z, i, r)
+    sleep_again(s, i, r)
 }
 
 // The `wait` of process `i` returns with the newest exit, and it runs.
-fn finish_wait(s: &mut [u8], z: Sizes, i: Index, buffer: &mut [u8]) -> Reply
-    requires { FinishAsks z s.old i buffer.old }
-    ensures { WaitFinished z s.old s.new i buffer.old buffer.new result }
+fn finish_wait(s: &mut State, i: Index, buffer: &mut [u8]) -> Reply
+    requires { FinishAsks s.old.sizes s.old.bytes.now i buffer.old }
+    ensures same { Same s.old s.new }
+    ensures done { WaitFinished s.old.sizes s.old.bytes.now s.new.bytes.now i buffer.old buffer.new (Ok result) }
 {
-    let pid = state::get64(s, z, state::PROCESS, state::PID, i);
-    let child = proc_wait::take_child(s, z, i, buffer);
-    dispatch(s, z, i);
+    let pid = s.get(field::PID, i);
+    let child = proc_wait::take_child(s, i, buffer);
+    dispatch(s, i);
     Reply::RunChild {
         pid,
         child: child.pid,
@@ -97,59 +104,60 @@ fn finish_wait(s: &mut [u8], z: Sizes, i: Index, buffer: &mut [u8]) -> Reply
 }
 
 // Process `i`, woken from a `wait`, looks for an exit; without one it sleeps on its waitr again.
-fn check_wait(s: &mut [u8], z: Sizes, i: Index, buffer: &mut [u8]) -> Reply
-    requires { WaitCheckAsks z s.old i buffer.old }
-    ensures { WaitChecked z s.old s.new i buffer.old buffer.new result }
+fn check_wait(s: &mut State, i: Index, buffer: &mut [u8]) -> Reply
+    requires { WaitCheckAsks s.old.sizes s.old.bytes.now i buffer.old }
+    ensures same { Same s.old s.new }
+    ensures done { WaitChecked s.old.sizes s.old.bytes.now s.new.bytes.now i buffer.old buffer.new (Ok result) }
 {
-    let nexits = state::get8(s, z, state::PROCESS, state::NEXITS, i);
+    let nexits = s.get(field::NEXITS, i);
     if nexits == 0 {
-        dat::wait_on(s, z, i);
+        dat::lent::wait_on(s, i);
         return Reply::Asleep;
     }
-    finish_wait(s, z, i, buffer)
+    finish_wait(s, i, buffer)
 }
 
 // Process `i` goes on where its call `c` left off.
-fn go_on(s: &mut [u8], z: Sizes, i: Index, c: Resume, buffer: &mut [u8]) -> Reply
-    requires { GoAsks z s.old i c buffer.old }
-    ensures { WentOn z s.old s.new i c buffer.old buffer.new result }
+fn go_on(s: &mut State, i: Index, c: Resume, buffer: &mut [u8]) -> Reply
+    requires { GoAsks s.old.sizes s.old.bytes.now i c buffer.old }
+    ensures same { Same s.old s.new }
+    ensures done { WentOn s.old.sizes s.old.bytes.now s.new.bytes.now i c buffer.old buffer.new (Ok result) }
 {
     match c {
-        Resume::Nothing => run_on(s, z, i),
-        Resume::Sleep { rendez, condition } => check_sleep(s, z, i, rendez, condition),
-        Resume::Tsleep { rendez, condition } => check_tsleep(s, z, i, rendez, condition),
-        Resume::Qlock { lock: _ } => run_on(s, z, i),
-        Resume::Wait => check_wait(s, z, i, buffer),
+        Resume::Nothing => run_on(s, i),
+        Resume::Sleep { rendez, condition } => check_sleep(s, i, rendez, condition),
+        Resume::Tsleep { rendez, condition } => check_tsleep(s, i, rendez, condition),
+        Resume::Qlock { lock: _ } => run_on(s, i),
+        Resume::Wait => check_wait(s, i, buffer),
     }
 }
 
 // Whether somebody is asleep on Rendez `r` while condition `c` is false.
-fn taken(s: &[u8], z: Sizes, r: Index, c: u8) -> bool
-    requires { TakenAsks z s.now r }
-    ensures { Taken z s.now r c result }
+fn taken(v: &View, r: Index, c: u8) -> bool
+    requires { TakenAsks v.now.sizes v.now.bytes.now r }
+    ensures { Taken v.now.sizes v.now.bytes.now r c result }
 {
-    let holds = clockwork::condition(s, z, c);
-    if holds {
+    if clockwork::conditions::holds(v, c) {
         return false;
     }
-    state::get16(s, z, state::RENDEZ, state::SLEEPER_OF, r) != 0
+    v.get(field::SLEEPER_OF, r).is_some()
 }
 
 // Whether process `i` would go on, at its call `c`, to sleep where another is asleep.
-fn taken_again(s: &[u8], z: Sizes, i: Index, c: Resume) -> bool
-    requires { TakenAgainAsks z s.now i c }
-    ensures { TakenAgain z s.now i c result }
+fn taken_again(v: &View, i: Index, c: Resume) -> bool
+    requires { TakenAgainAsks v.now.sizes v.now.bytes.now i c }
+    ensures { TakenAgain v.now.sizes v.now.bytes.now i c result }
 {
     match c {
         Resume::Nothing => false,
-        Resume::Sleep { rendez, condition } => taken(s, z, rendez, condition),
+        Resume::Sleep { rendez, condition } => taken(v, rendez, condition),
         Resume::Tsleep { rendez, condition } => {
-            let kernel = z.timers;
-            let queued = timer::is_queued(s, z, kernel + i);
+            let kernel = v.sizes.timers;
+            let queued = timer::by_deadline::is_queued(v, kernel + i);
             if !queued {
                 return false;
             }
-            taken(s, z, rendez, condition)
+            taken(v, rendez, condition)
         }
         Resume::Qlock { lock: _ } => false,
         Resume::Wait => false,
@@ -157,21 +165,22 @@ fn taken_again(s: &[u8], z: Sizes, i: Index, c: Resume) -> bool
 }
 
 // One turn: process `i`, the first in line, is taken off, gets its quantum and goes on at its call `c`.
-fn turn(s: &mut [u8], z: Sizes, i: Index, c: Resume, buffer: &mut [u8]) -> Reply
-    requires { TurnAsks z s.old i c buffer.old }
-    ensures { Turned z s.old s.new buffer.old buffer.new result }
+fn turn(s: &mut State, i: Index, c: Resume, buffer: &mut [u8]) -> Reply
+    requires { TurnAsks s.old.sizes s.old.bytes.now i c buffer.old }
+    ensures same { Same s.old s.new }
+    ensures done { Turned s.old.sizes s.old.bytes.now s.new.bytes.now buffer.old buffer.new (Ok result) }
 {
-    let _ = dat::next_ready(s, z);
-    clockwork::set_quantum_end(s, z, i);
-    go_on(s, z, i, c, buffer)
+    let _ = dat::lent::next_ready(s);
+    clockwork::quantum::set_end(s, i);
+    go_on(s, i, c, buffer)
 }
 
 // Nobody is ready: idle while somebody is asleep.
-fn rest(s: &[u8], z: Sizes) -> Reply
-    requires { RestAsks z s.now }
-    ensures { Rested z s.now result }
+fn rest(v: &View) -> Reply
+    requires { RestAsks v.now.sizes v.now.bytes.now }
+    ensures { Rested v.now.sizes v.now.bytes.now (Ok result) }
 {
-    let asleep: Count = state::get16(s, z, state::HEADER, state::ASLEEP_COUNT, 0);
+    let asleep = v.get(field::ASLEEP_COUNT, 0);
     if asleep == 0 {
         return Reply::End;
     }
@@ -179,33 +188,33 @@ fn rest(s: &[u8], z: Sizes) -> Reply
 }
 
 // Process `i`, the first in line, has its turn unless it would sleep where another is asleep.
-fn sched_first(s: &mut [u8], z: Sizes, i: Index, buffer: &mut [u8]) -> Reply
-    requires { FirstAsks z s.old i buffer.old }
-    ensures { SchedTook z s.old s.new false buffer.old buffer.new result }
+fn sched_first(s: &mut State, i: Index, buffer: &mut [u8]) -> Result<Reply, Refusal>
+    requires { FirstAsks s.old.sizes s.old.bytes.now i buffer.old }
+    ensures same { Same s.old s.new }
+    ensures done { SchedTook s.old.sizes s.old.bytes.now s.new.bytes.now false buffer.old buffer.new result }
 {
-    let c = record::load_resume(s, z, i);
-    let taken = taken_again(s, z, i, c);
-    if taken {
-        return Reply::Refused { number: 5 };
+    let v = s.view();
+    let c = Resume::load(&v, i);
+    if taken_again(&v, i, c) {
+        return Err(Refusal::RendezTaken);
     }
-    turn(s, z, i, c, buffer)
+    Ok(turn(s, i, c, buffer))
 }
 
 // One turn of the scheduler, while nobody runs.
-pub fn sched(s: &mut [u8], z: Sizes, in_interrupt: bool, buffer: &mut [u8]) -> Reply
-    requires { SchedAsks z s.old buffer.old }
-    ensures { SchedTook z s.old s.new in_interrupt buffer.old buffer.new result }
+pub fn sched(s: &mut State, in_interrupt: bool, buffer: &mut [u8]) -> Result<Reply, Refusal>
+    requires { SchedAsks s.old.sizes s.old.bytes.now buffer.old }
+    ensures same { Same s.old s.new }
+    ensures done { SchedTook s.old.sizes s.old.bytes.now s.new.bytes.now in_interrupt buffer.old buffer.new result }
 {
     if in_interrupt {
-        return Reply::Refused { number: 3 };
+        return Err(Refusal::InInterrupt);
     }
-    let up = state::get16(s, z, state::HEADER, state::UP, 0);
-    if up != 0 {
-        return Reply::Refused { number: 17 };
+    if s.get(field::UP, 0).is_some() {
+        return Err(Refusal::OneRuns);
     }
-    let head = state::get16(s, z, state::HEADER, state::RUN_HEAD, 0);
-    if head == 0 {
-        return rest(s, z);
-    }
-    sched_first(s, z, head - 1, buffer)
+    let Some(i) = s.get(field::RUN_HEAD, 0) else {
+        return Ok(rest(&s.view()));
+    };
+    sched_first(s, i, buffer)
 }

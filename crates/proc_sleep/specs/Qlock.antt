@@ -1,5 +1,5 @@
 -- qlock: what the code shows at each return.
-use Rattle.std.specs.Prelude.{if◌then◌else◌, ◌≡◌, refl, Bool, true, false, not, ◌&&◌, List, [], ◌∷◌, ◌++◌, ℕ, suc, ◌-◌, ◌<◌}
+use Rattle.std.specs.Prelude.{if◌then◌else◌, ◌≡◌, refl, Bool, true, false, not, ◌&&◌, List, [], ◌∷◌, ◌++◌, ℕ, suc, ◌<◌, Result, Ok, Err}
 use Rattle.std.proofs.Common.{sym, ap, subst, ◌∙◌, arith, lt-ltb}
 use Rattle.std.proofs.Math.Option.{none, some}
 use Rattle.machine.specs.Basics.{is_none}
@@ -11,7 +11,6 @@ use Rattle.machine.specs.Outcome.{Answer, answer, open_outcome}
 use Rattle.machine.specs.Update.{with_up, with_lock, with_process, with_resume}
 use Rattle.machine.specs.Places.{queue_on}
 use Rattle.machine.specs.Perform.{perform, open_perform}
-use Rattle.machine.specs.StepOf.{left_by}
 use Rattle.layout.specs.Memory.{Memory}
 use Rattle.chain.specs.Links.{alter-same}
 use Rattle.state.specs.Fields as fields
@@ -19,23 +18,27 @@ use Rattle.state.specs.Abs.{machine_of}
 use Rattle.state.specs.Places.{mem_in}
 use Rattle.state.specs.declared.Sizes.{Sizes}
 use Rattle.record.specs.declared.Resume.TheVariants.{Qlock}
+use Rattle.rules.specs.Code.{Long}
 use Rattle.holds.specs.Holds.{Holds}
 use Rattle.holds.specs.Did.{machine_in}
 use Rattle.holds.specs.Use.{same_use}
 use Rattle.holds.specs.Touched.{Touched, touched-same, touched_join, touched-did}
 use Rattle.dat.specs.Asleep.{asleep_in}
+use Rattle.dat.specs.Run.{holds-long}
 use Rattle.dat.specs.Own.{StopAsks, Stopped, CallAsks, Called}
 use Rattle.qlock.specs.Queue.{LockAsks, EnqueueAsks, Enqueued}
 use Rattle.qlock.specs.Hold.{Tried}
 use Rattle.outcome.specs.declared.Reply as code
-use Rattle.outcome.specs.declared.Reply.TheVariants.{Done, Asleep, Refused}
+use Rattle.outcome.specs.declared.Reply.TheVariants.{Done, Asleep}
+use Rattle.outcome.specs.declared.Refusal.{Refusal}
 use Rattle.outcome.specs.Means.{means, told}
-use Rattle.outcome.specs.Stepped.{Well, Stepped, left_bytes}
-use Rattle.outcome.specs.Laws.{stepped-done, stepped-refused}
+use Rattle.outcome.specs.Stepped.{Well, Stepped}
+use Rattle.outcome.specs.Laws.{stepped-done}
 use Rattle.outcome.specs.Refusals.{step}
 use Rattle.outcome.specs.RefusalsLock.{refusal-qlock}
 use Rattle.outcome.specs.Room.{well-room}
-use Rattle.proc_sleep.specs.Running.{nobody-up, somebody-up, link_up, current-is, stopped-awake}
+use Rattle.outcome.specs.Running.{IsRunning, NotRunning, somebody-up, current-is, not-running}
+use Rattle.proc_sleep.specs.Running.{stopped-awake}
 
 -- The running process i waits for lock q, which is held.
 pub record QueueAsks (z : Sizes) (s : List ℕ) (i q : ℕ) : Type 0 where
@@ -118,7 +121,7 @@ pub record QlockAsks (z : Sizes) (s : List ℕ) (q : ℕ) : Type 0 where
   pub well : Well z s
   pub index : q < z.locks
 
-pub record QlockTook (z : Sizes) (s s' : List ℕ) (k : Bool) (Q : ℕ) (a : code.Reply) : Type 0 where
+pub record QlockTook (z : Sizes) (s s' : List ℕ) (k : Bool) (Q : ℕ) (a : Result code.Reply Refusal) : Type 0 where
   pub stepped : Stepped z s s' (step k (qlock Q)) [] a
 
 pub qlock_try : {z : Sizes} {s : List ℕ} {q : ℕ} → QlockAsks z s q → LockAsks z s q
@@ -160,7 +163,7 @@ qlock-held : (m : Machine) (q i : ℕ) → (lock m q).held ≡ true → m.up ≡
 unfolding open_perform open_outcome
 qlock-held m q i e u = (rw e, rw e (ap (λ (j : ℕ). queue_on j q (machine.in_qlock q) m) (current-is m i u)))
 
-pub qlock-done : {z : Sizes} {s s₁ : List ℕ} {q : ℕ} {k t : Bool} → QlockAsks z s q → Tried z s s₁ q t → t ≡ true → QlockTook z s s₁ k q Done
+pub qlock-done : {z : Sizes} {s s₁ : List ℕ} {q : ℕ} {k t : Bool} → QlockAsks z s q → Tried z s s₁ q t → t ≡ true → QlockTook z s s₁ k q (Ok Done)
 unfolding means told
 qlock-done {z} {s} {s₁} {q} {k} {t} a w e =
     let h : (lock (machine_in z s) q).held ≡ false = not-held (lock (machine_in z s) q).held (sym e ∙ w.answer) in
@@ -182,69 +185,62 @@ record Busy (z : Sizes) (s s₁ : List ℕ) (q : ℕ) : Type 0 where
 busy : {z : Sizes} {s s₁ : List ℕ} {q : ℕ} {t : Bool} → Tried z s s₁ q t → t ≡ false → Busy z s s₁ q
 busy {z} {s} {s₁} {q} w e = record { held = is_held (lock (machine_in z s) q).held (sym e ∙ w.answer); same = w.no e }
 
-pub qlock-marked
-    : {z : Sizes} {s s₁ : List ℕ} {q : ℕ} {k t : Bool} → QlockAsks z s q → Tried z s s₁ q t → t ≡ false → k ≡ true → QlockTook z s s₁ k q (Refused 3)
-unfolding left_by left_bytes
-qlock-marked {z} {s} {s₁} {q} {k} {t} a w e f =
-    let h : Busy z s s₁ q = busy w e in
-    subst (λ (x : List ℕ). QlockTook z s x k q (Refused 3)) (sym h.same)
-    (record { stepped = stepped-refused (qlock-number k a ∙ rw (h.held, f)) a.well.holds refl refl })
+-- Who runs is looked for in the bytes as they were.
+pub qlock-long : {z : Sizes} {s s₁ : List ℕ} {q : ℕ} {t : Bool} → QlockAsks z s q → Tried z s s₁ q t → t ≡ false → Long z s₁
+qlock-long {z} {s} {s₁} {q} {t} a w e = subst (Long z) (sym (busy w e).same) (holds-long a.well.holds)
 
-pub qlock-nobody
-    : {z : Sizes} {s s₁ : List ℕ} {q u : ℕ} {k t : Bool}
+pub qlock-refused
+    : {z : Sizes} {s s₁ : List ℕ} {q : ℕ} {k t : Bool} {e : Refusal}
     → QlockAsks z s q
     → Tried z s s₁ q t
     → t ≡ false
-    → k ≡ false
-    → u ≡ mem_in z s₁ fields.up 0
-    → u ≡ 0
-    → QlockTook z s s₁ k q (Refused 4)
-unfolding left_by left_bytes
-qlock-nobody {z} {s} {s₁} {q} {u} {k} {t} a w e f v g =
-    let h : Busy z s s₁ q = busy w e in
-    let y : u ≡ mem_in z s fields.up 0 = v ∙ ap (λ (x : List ℕ). mem_in z x fields.up 0) h.same in
-    subst (λ (x : List ℕ). QlockTook z s x k q (Refused 4)) (sym h.same)
-    (record { stepped = stepped-refused (qlock-number k a ∙ rw (h.held, f, nobody-up z s u y g)) a.well.holds refl refl })
+    → NotRunning z s₁ k e
+    → QlockTook z s s₁ k q (Err e)
+qlock-refused {z} {s} {s₁} {q} {k} {t} {e} a w f r =
+    let h : Busy z s s₁ q = busy w f in
+    subst (λ (x : List ℕ). QlockTook z s x k q (Err e)) (sym h.same)
+    (record {
+      stepped =
+          not-running a.well.holds (λ m. qlock-number k a ∙ rw (h.held, m)) (λ u o. qlock-number k a ∙ rw (h.held, u, o))
+          (subst (λ (x : List ℕ). NotRunning z x k e) h.same r);
+    })
 
 pub qlock-queue
-    : {z : Sizes} {s s₁ : List ℕ} {q u : ℕ} {t : Bool}
+    : {z : Sizes} {s s₁ : List ℕ} {q i : ℕ} {k t : Bool}
     → QlockAsks z s q
     → Tried z s s₁ q t
     → t ≡ false
-    → u ≡ mem_in z s₁ fields.up 0
-    → (u ≡ 0 → ⊥)
-    → QueueAsks z s₁ (u - 1) q
-qlock-queue {z} {s} {s₁} {q} {u} {t} a w e v ne =
+    → IsRunning z s₁ k i
+    → QueueAsks z s₁ i q
+qlock-queue {z} {s} {s₁} {q} {i} a w e u =
     let h : Busy z s s₁ q = busy w e in
-    subst (λ (x : List ℕ). QueueAsks z x (u - 1) q) (sym h.same)
+    subst (λ (x : List ℕ). QueueAsks z x i q) (sym h.same)
     (record {
       holds = a.well.holds;
-      runs = link_up z s u (v ∙ ap (λ (x : List ℕ). mem_in z x fields.up 0) h.same) ne;
+      runs = sym (ap (λ (x : List ℕ). mem_in z x fields.up 0) h.same) ∙ u.runs;
       index = a.index;
       held = h.held;
       room = well-room a.well;
     })
 
 pub qlock-asleep
-    : {z : Sizes} {s s₁ s₂ : List ℕ} {q u : ℕ} {k t : Bool}
+    : {z : Sizes} {s s₁ s₂ : List ℕ} {q i : ℕ} {k t : Bool}
     → QlockAsks z s q
     → Tried z s s₁ q t
     → t ≡ false
-    → k ≡ false
-    → u ≡ mem_in z s₁ fields.up 0
-    → (u ≡ 0 → ⊥)
-    → Queued z s₁ s₂ (u - 1) q
-    → QlockTook z s s₂ k q Asleep
+    → IsRunning z s₁ k i
+    → Queued z s₁ s₂ i q
+    → QlockTook z s s₂ k q (Ok Asleep)
 unfolding means told
-qlock-asleep {z} {s} {s₁} {s₂} {q} {u} {k} {t} a w e f v ne d =
+qlock-asleep {z} {s} {s₁} {s₂} {q} {i} {k} {t} a w e u d =
     let h : Busy z s s₁ q = busy w e in
-    let o : (machine_in z s).up ≡ some (u - 1) = somebody-up z s u (v ∙ ap (λ (x : List ℕ). mem_in z x fields.up 0) h.same) ne in
-    let p : ((perform (qlock q) (machine_in z s)).reply ≡ answer Answer.asleep) × ((perform (qlock q) (machine_in z s)).after ≡ queue_on (u - 1) q (machine.in_qlock q) (machine_in z s)) =
-    qlock-held (machine_in z s) q (u - 1) h.held o
+    let o : (machine_in z s).up ≡ some i = somebody-up z s (sym (ap (λ (x : List ℕ). mem_in z x fields.up 0) h.same) ∙ u.runs) in
+    let p : ((perform (qlock q) (machine_in z s)).reply ≡ answer Answer.asleep) × ((perform (qlock q) (machine_in z s)).after ≡ queue_on i q (machine.in_qlock q) (machine_in z s)) =
+    qlock-held (machine_in z s) q i h.held o
     in
     record {
       stepped =
-          stepped-done (qlock-number k a ∙ rw (h.held, f, o)) d.holds (touched_join (touched-same h.same) d.touched).spares (sym p.0)
+          stepped-done (qlock-number k a ∙ rw (h.held, u.unmarked, o)) d.holds (touched_join (touched-same h.same) d.touched).spares (sym p.0)
           (ap told (sym p.0))
-          (d.machine ∙ ap (λ (x : List ℕ). queue_on (u - 1) q (machine.in_qlock q) (machine_in z x)) h.same ∙ sym p.1);
+          (d.machine ∙ ap (λ (x : List ℕ). queue_on i q (machine.in_qlock q) (machine_in z x)) h.same ∙ sym p.1);
     }

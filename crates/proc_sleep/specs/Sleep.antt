@@ -1,5 +1,5 @@
 -- sleep: what the code shows at each return.
-use Rattle.std.specs.Prelude.{if◌then◌else◌, ◌≡◌, refl, Bool, true, false, not, ◌&&◌, List, [], ◌⊎◌, ℕ, suc, ◌-◌, ◌≤◌, ◌<◌}
+use Rattle.std.specs.Prelude.{if◌then◌else◌, ◌≡◌, refl, Bool, true, false, not, ◌&&◌, List, [], ◌⊎◌, ℕ, suc, ◌-◌, ◌≤◌, ◌<◌, Option, None, Some, is_some, Result, Ok, Err}
 use Rattle.std.proofs.Common.{sym, ap, subst, ◌∙◌, inl, arith, lt-ltb}
 use Rattle.std.proofs.Math.Option.{none, some}
 use Rattle.machine.specs.Basics.{is_none}
@@ -12,6 +12,7 @@ use Rattle.machine.specs.Update.{with_up, with_sleeper, with_process, with_resum
 use Rattle.machine.specs.Places.{sleep_on}
 use Rattle.machine.specs.Perform.{perform, open_perform}
 use Rattle.machine.specs.StepOf.{left_by}
+use Rattle.memory.specs.Link.{link}
 use Rattle.layout.specs.Memory.{Memory}
 use Rattle.chain.specs.Links.{alter-same}
 use Rattle.state.specs.Fields as fields
@@ -21,6 +22,7 @@ use Rattle.state.specs.declared.Sizes.{Sizes}
 use Rattle.record.specs.declared.Resume.{Resume}
 use Rattle.record.specs.declared.Resume.TheVariants.{Sleep}
 use Rattle.record.specs.Resumes.{number_of, object_of, condition_of, meaning}
+use Rattle.exact.specs.Sums.{true-false}
 use Rattle.exact.specs.Parts.{sleeper_of_lem}
 use Rattle.holds.specs.Holds.{Holds}
 use Rattle.holds.specs.Whole.{holds-bounds}
@@ -33,14 +35,17 @@ use Rattle.dat.specs.Rendez.{SleepAsks, Slept}
 use Rattle.timer.specs.Only.{Owing}
 use Rattle.clockwork.specs.Conditions.{Condition}
 use Rattle.outcome.specs.declared.Reply as code
-use Rattle.outcome.specs.declared.Reply.TheVariants.{Done, Asleep, Refused}
+use Rattle.outcome.specs.declared.Reply.TheVariants.{Done, Asleep}
+use Rattle.outcome.specs.declared.Refusal.{Refusal}
+use Rattle.outcome.specs.declared.Refusal.TheVariants.{InInterrupt, RendezTaken}
 use Rattle.outcome.specs.Means.{means, told}
 use Rattle.outcome.specs.Stepped.{Well, Stepped, left_bytes}
 use Rattle.outcome.specs.Laws.{stepped-done, stepped-refused}
 use Rattle.outcome.specs.Refusals.{step}
 use Rattle.outcome.specs.RefusalsRun.{refusal-sleep, taken_true, taken_free, taken-there}
 use Rattle.outcome.specs.Room.{well-room}
-use Rattle.proc_sleep.specs.Running.{nobody-up, somebody-up, link_up, current-is, stopped-awake}
+use Rattle.outcome.specs.Running.{IsRunning, NotRunning, somebody-up, current-is, not-running}
+use Rattle.proc_sleep.specs.Running.{stopped-awake}
 
 -- The running process i goes asleep on Rendez r, where nobody is, with a call that is a `sleep` or `tsleep` there.
 pub record OffAsks (z : Sizes) (s : List ℕ) (i r : ℕ) (c : Resume) : Type 0 where
@@ -121,7 +126,7 @@ pub record SleepStepAsks (z : Sizes) (s : List ℕ) (r : ℕ) : Type 0 where
   pub well : Well z s
   pub index : r < z.rendez
 
-pub record SleepTook (z : Sizes) (s s' : List ℕ) (k : Bool) (R C : ℕ) (a : code.Reply) : Type 0 where
+pub record SleepTook (z : Sizes) (s s' : List ℕ) (k : Bool) (R C : ℕ) (a : Result code.Reply Refusal) : Type 0 where
   pub stepped : Stepped z s s' (step k (sleep R C)) [] a
 
 pub sleep-owing : {z : Sizes} {s : List ℕ} {r : ℕ} → SleepStepAsks z s r → Owing z s
@@ -139,7 +144,7 @@ sleep-number
 unfolding machine_of in_range
 sleep-number {z} {s} {r} {c} k a l = refusal-sleep (machine_in z s) k r c ∙ rw (lt-ltb r z.rendez a.index, lt-ltb c 256 l)
 
-pub sleep-marked : {z : Sizes} {s : List ℕ} {r c : ℕ} {k : Bool} → SleepStepAsks z s r → c < 256 → k ≡ true → SleepTook z s s k r c (Refused 3)
+pub sleep-marked : {z : Sizes} {s : List ℕ} {r c : ℕ} {k : Bool} → SleepStepAsks z s r → c < 256 → k ≡ true → SleepTook z s s k r c (Err InInterrupt)
 unfolding left_by left_bytes
 sleep-marked {z} {s} {r} {c} {k} a l e = record { stepped = stepped-refused (sleep-number k a l ∙ rw e) a.well.holds refl refl }
 
@@ -153,7 +158,7 @@ and_off true = refl
 and_off false = refl
 
 pub sleep-held
-    : {z : Sizes} {s : List ℕ} {r c : ℕ} {k t : Bool} → SleepStepAsks z s r → c < 256 → k ≡ false → Condition z s c t → t ≡ true → SleepTook z s s k r c Done
+    : {z : Sizes} {s : List ℕ} {r c : ℕ} {k t : Bool} → SleepStepAsks z s r → c < 256 → k ≡ false → Condition z s c t → t ≡ true → SleepTook z s s k r c (Ok Done)
 unfolding means told
 sleep-held {z} {s} {r} {c} {k} {t} a l f h e =
     let x : condition (machine_in z s) c ≡ true = sym h.answer ∙ e in
@@ -174,8 +179,17 @@ pub record FalseAsks (z : Sizes) (s : List ℕ) (r c : ℕ) : Type 0 where
 pub false-asks : {z : Sizes} {s : List ℕ} {r c : ℕ} {t : Bool} → SleepStepAsks z s r → c < 256 → Condition z s c t → t ≡ false → FalseAsks z s r c
 false-asks a l h e = record { asks = a; low = l; false_now = sym h.answer ∙ e }
 
-pub sleep-rest : {z : Sizes} {s s₁ : List ℕ} {r c : ℕ} {k : Bool} {a : code.Reply} → k ≡ false → SleepTook z s s₁ false r c a → SleepTook z s s₁ k r c a
+pub sleep-rest : {z : Sizes} {s s₁ : List ℕ} {r c : ℕ} {k : Bool} {a : Result code.Reply Refusal} → k ≡ false → SleepTook z s s₁ false r c a → SleepTook z s s₁ k r c a
 sleep-rest {z} {s} {s₁} {r} {c} {k} {a} e t = subst (λ (x : Bool). SleepTook z s s₁ x r c a) (sym e) t
+
+-- Whether somebody is, by the link.
+pub none-there : (o : Option ℕ) → is_some o ≡ false → link o ≡ 0
+none-there None e = refl
+none-there (Some i) e = absurd (true-false e)
+
+pub some-there : (o : Option ℕ) → is_some o ≡ true → link o ≡ 0 → ⊥
+some-there None e = λ _. absurd (true-false (sym e))
+some-there (Some i) e = λ q. absurd (omega (arith, q))
 
 -- another is asleep there
 pub sleep-taken
@@ -183,7 +197,7 @@ pub sleep-taken
     → FalseAsks z s r c
     → l ≡ mem_in z s fields.sleeper_of r
     → (l ≡ 0 → ⊥)
-    → SleepTook z s s false r c (Refused 5)
+    → SleepTook z s s false r c (Err RendezTaken)
 unfolding left_by left_bytes
 sleep-taken {z} {s} {r} {c} {l} a d ne =
     let j : l ≡ suc (l - 1) = omega arith in
@@ -199,34 +213,32 @@ sleep-free {z} {s} {r} {l} c a d e =
 
 -- nobody runs
 pub sleep-nobody
-    : {z : Sizes} {s : List ℕ} {r c l u : ℕ}
+    : {z : Sizes} {s : List ℕ} {r c l : ℕ} {e : Refusal}
     → FalseAsks z s r c
     → l ≡ mem_in z s fields.sleeper_of r
     → l ≡ 0
-    → u ≡ mem_in z s fields.up 0
-    → u ≡ 0
-    → SleepTook z s s false r c (Refused 4)
-unfolding left_by left_bytes
-sleep-nobody {z} {s} {r} {c} {l} {u} a d g v q =
+    → NotRunning z s false e
+    → SleepTook z s s false r c (Err e)
+sleep-nobody {z} {s} {r} {c} {l} a d g n =
     let y : taken (machine_in z s) r c ≡ false = sleep-free c a.asks d g in
     record {
       stepped =
-          stepped-refused (sleep-number false a.asks a.low ∙ rw (y, a.false_now, nobody-up z s u v q)) a.asks.well.holds refl refl;
+          not-running a.asks.well.holds (λ m. sleep-number false a.asks a.low ∙ absurd (true-false (sym m)))
+          (λ u o. sleep-number false a.asks a.low ∙ rw (y, a.false_now, o)) n;
     }
 
 -- it goes asleep
 pub sleep-off
-    : {z : Sizes} {s : List ℕ} {r c l u : ℕ}
+    : {z : Sizes} {s : List ℕ} {r c l i : ℕ}
     → FalseAsks z s r c
     → l ≡ mem_in z s fields.sleeper_of r
     → l ≡ 0
-    → u ≡ mem_in z s fields.up 0
-    → (u ≡ 0 → ⊥)
-    → OffAsks z s (u - 1) r (Sleep r c)
-sleep-off {z} {s} {r} {c} {l} {u} a d g v ne =
+    → IsRunning z s false i
+    → OffAsks z s i r (Sleep r c)
+sleep-off {z} {s} {r} {c} {l} {i} a d g u =
     record {
       holds = a.asks.well.holds;
-      runs = link_up z s u v ne;
+      runs = u.runs;
       kind = inl refl;
       object = refl;
       condition = omega (arith, a.low);
@@ -241,20 +253,19 @@ unfolding open_perform open_outcome
 sleeps m r c i e u = (rw e, rw e (ap (λ (j : ℕ). sleep_on j r (machine.in_sleep r c) m) (current-is m i u)))
 
 pub sleep-asleep
-    : {z : Sizes} {s s₁ : List ℕ} {r c l u : ℕ}
+    : {z : Sizes} {s s₁ : List ℕ} {r c l i : ℕ}
     → FalseAsks z s r c
     → l ≡ mem_in z s fields.sleeper_of r
     → l ≡ 0
-    → u ≡ mem_in z s fields.up 0
-    → (u ≡ 0 → ⊥)
-    → FellAsleep z s s₁ (u - 1) r (Sleep r c)
-    → SleepTook z s s₁ false r c Asleep
+    → IsRunning z s false i
+    → FellAsleep z s s₁ i r (Sleep r c)
+    → SleepTook z s s₁ false r c (Ok Asleep)
 unfolding means told
-sleep-asleep {z} {s} {s₁} {r} {c} {l} {u} a d g v ne w =
+sleep-asleep {z} {s} {s₁} {r} {c} {l} {i} a d g u w =
     let y : taken (machine_in z s) r c ≡ false = sleep-free c a.asks d g in
-    let o : (machine_in z s).up ≡ some (u - 1) = somebody-up z s u v ne in
-    let p : ((perform (sleep r c) (machine_in z s)).reply ≡ answer Answer.asleep) × ((perform (sleep r c) (machine_in z s)).after ≡ sleep_on (u - 1) r (machine.in_sleep r c) (machine_in z s)) =
-    sleeps (machine_in z s) r c (u - 1) a.false_now o
+    let o : (machine_in z s).up ≡ some i = somebody-up z s u.runs in
+    let p : ((perform (sleep r c) (machine_in z s)).reply ≡ answer Answer.asleep) × ((perform (sleep r c) (machine_in z s)).after ≡ sleep_on i r (machine.in_sleep r c) (machine_in z s)) =
+    sleeps (machine_in z s) r c i a.false_now o
     in
     record {
       stepped =

@@ -1,6 +1,6 @@
 -- A new process, ready: what `begin` asks and ensures.
-use Rattle.std.specs.Prelude.{◌≡◌, refl, List, ℕ, ◌-◌, ◌≤◌, ◌<◌}
-use Rattle.std.proofs.Common.{sym, ap, ◌∙◌, arith}
+use Rattle.std.specs.Prelude.{◌≡◌, refl, List, ℕ, suc, ◌≤◌, ◌<◌}
+use Rattle.std.proofs.Common.{sym, ap, subst, ◌∙◌, arith}
 use Rattle.std.proofs.Math.Option.{none, some}
 use Rattle.machine.specs.Exits.{free_record}
 use Rattle.machine.specs.Places.{ready}
@@ -41,28 +41,26 @@ begin-alloc a = record { owed = 0; holds = a.holds; new = a.new; room = a.pid; l
 none-some : {n : ℕ} → none ≡ some n → ⊥
 none-some e = let d : ◌≡◌ {A = ℕ} 0 1 = cc in omega arith
 
-module _ {z : Sizes} {s s₁ : List ℕ} {p : Proc} {r : ℕ} (a : BeginAsks z s p) (l : Allocated z s s₁ p r) where
-  there : r ≡ 0 → ⊥
-  there e = none-some (sym (l.none e).0 ∙ a.free)
+-- A record is free, so `alloc` finds one.
+pub begin-link : {z : Sizes} {s s₁ : List ℕ} {p : Proc} {r : ℕ} → BeginAsks z s p → Allocated z s s₁ p r → r ≡ 0 → ⊥
+begin-link a l e = none-some (sym (l.none e).0 ∙ a.free)
 
-  pub begin-link : 1 ≤ r
-  begin-link = omega (arith, there)
+module _ {z : Sizes} {s s₁ : List ℕ} {p : Proc} {i : ℕ} (a : BeginAsks z s p) (l : Allocated z s s₁ p (suc i)) where
+  made_one : AllocOne z s s₁ p i
+  made_one = subst (AllocOne z s s₁ p) (omega arith) (l.one (begin-link a l))
 
-  made_one : AllocOne z s s₁ p (r - 1)
-  made_one = l.one there
-
-  pub begin-ready : ReadyAsks z s₁ (r - 1)
+  pub begin-ready : ReadyAsks z s₁ i
   begin-ready = record { owed = 0; holds = made_one.did.holds 0 a.holds; nowhere = made_one.nowhere }
 
-  pub begun : {s₂ : List ℕ} → Readied z s₁ s₂ (r - 1) → Begun z s s₂ p
+  pub begun : {s₂ : List ℕ} → Readied z s₁ s₂ i → Begun z s s₂ p
   begun {s₂} d =
       let y : Touched z s₁ s₂ = touched-did d.did (same_use refl refl refl refl refl refl refl refl refl) in
       record {
         holds = d.did.holds 0 (made_one.did.holds 0 a.holds);
         machine =
             d.did.machine
-            ∙ ap (ready (r - 1)) made_one.did.machine
-            ∙ born-made (machine_in z s) (r - 1) p made_one.found;
+            ∙ ap (ready i) made_one.did.machine
+            ∙ born-made (machine_in z s) i p made_one.found;
         spares = spares-before (spares-did made_one.did made_one.ceased) y;
         alive = alive_join made_one.alive (alive-kin y.same.kin);
       }

@@ -1,6 +1,6 @@
 -- tadd: what it asks and ensures, and what the code shows.
-use Rattle.std.specs.Prelude.{◌≡◌, refl, Bool, true, false, ◌&&◌, List, [], ℕ, ◌+◌, ◌≤◌, ◌<◌, eqb}
-use Rattle.std.proofs.Common.{ap, subst, ◌∙◌, Fits, lt-ltb, le-leb}
+use Rattle.std.specs.Prelude.{◌≡◌, refl, Bool, true, false, ◌&&◌, List, [], ℕ, ◌+◌, ◌≤◌, ◌<◌, eqb, Result, Ok, Err}
+use Rattle.std.proofs.Common.{ap, ◌∙◌, Fits, lt-ltb, le-leb}
 use Rattle.std.proofs.Math.Bool.{and-false}
 use Rattle.std.specs.Int.{w64}
 use Rattle.clock.specs.declared.Duration.{Duration}
@@ -17,42 +17,42 @@ use Rattle.state.specs.declared.Sizes.{Sizes}
 use Rattle.holds.specs.Did.{machine_in}
 use Rattle.clockwork.specs.Settings.{setting_of}
 use Rattle.outcome.specs.declared.Reply as code
-use Rattle.outcome.specs.declared.Reply.TheVariants.{Done, Refused}
-use Rattle.outcome.specs.Means.{means, told}
+use Rattle.outcome.specs.declared.Reply.TheVariants.{Done}
+use Rattle.outcome.specs.declared.Refusal.{Refusal}
+use Rattle.outcome.specs.Means.{number, means, told}
 use Rattle.outcome.specs.Stepped.{Well, Stepped, left_bytes}
 use Rattle.outcome.specs.Laws.{stepped-done, stepped-refused}
 use Rattle.outcome.specs.Refusals.{step}
 use Rattle.outcome.specs.RefusalsTime.{refusal-tadd}
-use Rattle.proc_timer.specs.declared.Counted.{Counted}
-use Rattle.proc_timer.specs.declared.Counted.TheVariants.{Counts, Meets}
+use Rattle.proc_timer.specs.declared.Kind.{Kind}
+use Rattle.proc_timer.specs.Kinds.{kind_number, kind_low}
 use Rattle.proc_timer.specs.Set.{period_for, SetAsks, SetAfter}
-use Rattle.proc_timer.specs.Counting.{number_for, CountedAs, Lasts}
+use Rattle.proc_timer.specs.Counting.{number_for, CountedTo, NotCounted}
 
--- The state is well formed, t is a kernel timer other than timer 0, the kind 0 or 1, the duration one, and r a Rendez.
-pub record TaddAsks (z : Sizes) (s : List ℕ) (t kind : ℕ) (d : Duration) (r : ℕ) : Type 0 where
+-- The state is well formed, t is a kernel timer other than timer 0, the duration one, and r a Rendez.
+pub record TaddAsks (z : Sizes) (s : List ℕ) (t : ℕ) (d : Duration) (r : ℕ) : Type 0 where
   pub well : Well z s
   pub some : 1 ≤ t
   pub index : t < z.timers
-  pub one : kind ≤ 1
   pub valid : d.nanos < 1000000000
   pub there : r < z.rendez
 
 -- It asks nothing of the mark.
-pub record Tadded (z : Sizes) (s s' : List ℕ) (t kind : ℕ) (d : Duration) (r n : ℕ) (a : code.Reply) : Type 0 where
+pub record Tadded (z : Sizes) (s s' : List ℕ) (t kind : ℕ) (d : Duration) (r n : ℕ) (a : Result code.Reply Refusal) : Type 0 where
   pub stepped : (k : Bool) → Stepped z s s' (step k (tadd t kind d.secs d.nanos r n)) [] a
 
 tadd-range
-    : {z : Sizes} {s : List ℕ} {t kind : ℕ} {d : Duration} {r n : ℕ}
-    → TaddAsks z s t kind d r
+    : {z : Sizes} {s : List ℕ} {t : ℕ} (kind : Kind) {d : Duration} {r n : ℕ}
+    → TaddAsks z s t d r
     → Fits w64 d.secs
     → Fits w64 n
-    → in_range (machine_in z s).sizes (tadd t kind d.secs d.nanos r n) ≡ true
+    → in_range (machine_in z s).sizes (tadd t (kind_number kind) d.secs d.nanos r n) ≡ true
 unfolding machine_of in_range
-tadd-range {z} {s} {t} {kind} {d} {r} {n} a f g =
+tadd-range {z} {s} {t} kind {d} {r} {n} a f g =
     rw (
       le-leb 1 t a.some,
       lt-ltb t z.timers a.index,
-      le-leb kind 1 a.one,
+      le-leb (kind_number kind) 1 (kind_low kind),
       lt-ltb d.secs 18446744073709551616 f.fits,
       lt-ltb d.nanos 1000000000 a.valid,
       lt-ltb r z.rendez a.there,
@@ -60,57 +60,52 @@ tadd-range {z} {s} {t} {kind} {d} {r} {n} a f g =
     )
 
 tadd-number
-    : {z : Sizes} {s : List ℕ} {t kind : ℕ} {d : Duration} {r n : ℕ} {w : Counted}
-    → TaddAsks z s t kind d r
-    → CountedAs z s kind d n w
+    : {z : Sizes} {s : List ℕ} {t : ℕ} (kind : Kind) {d : Duration} {r n : ℕ}
+    → TaddAsks z s t d r
+    → Fits w64 d.secs
+    → Fits w64 n
     → (k : Bool)
-    → refusal (machine_in z s) (step k (tadd t kind d.secs d.nanos r n)) ≡ number_for (machine_in z s) kind d.secs d.nanos n
-tadd-number {z} {s} {t} {kind} {d} {r} {n} a c k =
-    refusal-tadd (machine_in z s) k t kind d.secs d.nanos r n ∙ rw (tadd-range a c.secs c.reading)
+    → refusal (machine_in z s) (step k (tadd t (kind_number kind) d.secs d.nanos r n)) ≡ number_for (machine_in z s) (kind_number kind) d.secs d.nanos n
+tadd-number {z} {s} {t} kind {d} {r} {n} a f g k =
+    refusal-tadd (machine_in z s) k t (kind_number kind) d.secs d.nanos r n ∙ rw (tadd-range kind a f g)
 
 -- What the code shows: a number is met, or the timer is set and queued.
 pub tadd-refused
-    : {z : Sizes} {s : List ℕ} {t kind : ℕ} {d : Duration} {r n number : ℕ} {w : Counted}
-    → TaddAsks z s t kind d r
-    → CountedAs z s kind d n w
-    → w ≡ Meets number
-    → Tadded z s s t kind d r n (Refused number)
+    : {z : Sizes} {s : List ℕ} {t : ℕ} (kind : Kind) {d : Duration} {r n : ℕ} {e : Refusal}
+    → TaddAsks z s t d r
+    → NotCounted z s (kind_number kind) d n e
+    → Tadded z s s t (kind_number kind) d r n (Err e)
 unfolding left_by left_bytes open_table open_step
-tadd-refused {z} {s} {t} {kind} {d} {r} {n} {number} a x e =
-    let c : CountedAs z s kind d n (Meets number) = subst (CountedAs z s kind d n) e x in
-    let o : eqb number 11 && false ≡ false = and-false (eqb number 11) in
-    record { stepped = λ k. stepped-refused (tadd-number a c k ∙ c.number) a.well.holds (rw o) (rw o) }
+tadd-refused {z} {s} {t} kind {d} {r} {n} {e} a c =
+    let o : eqb (number e) 11 && false ≡ false = and-false (eqb (number e) 11) in
+    record { stepped = λ k. stepped-refused (tadd-number kind a c.secs c.reading k ∙ c.number) a.well.holds (rw o) (rw o) }
 
 pub tadd-set
-    : {z : Sizes} {s : List ℕ} {t kind : ℕ} {d : Duration} {r n counts : ℕ} {w : Counted}
-    → TaddAsks z s t kind d r
-    → CountedAs z s kind d n w
-    → w ≡ Counts counts
-    → SetAsks z s t kind r n counts
-tadd-set {z} {s} {kind = kind} {d = d} {n = n} {counts = counts} a x e =
-    let c : Lasts z d n counts = (subst (CountedAs z s kind d n) e x).lasts in
+    : {z : Sizes} {s : List ℕ} {t : ℕ} (kind : Kind) {d : Duration} {r n counts : ℕ}
+    → TaddAsks z s t d r
+    → CountedTo z s (kind_number kind) d n counts
+    → SetAsks z s t r n counts
+tadd-set kind a c =
     record {
       owing = record { owed = 0; holds = a.well.holds };
       index = a.index;
       there = a.there;
-      small = c.small;
-      few = c.few;
+      small = c.lasts.small;
+      few = c.lasts.few;
     }
 
 pub tadd-done
-    : {z : Sizes} {s s₁ : List ℕ} {t kind : ℕ} {d : Duration} {r n counts : ℕ} {w : Counted}
-    → TaddAsks z s t kind d r
-    → CountedAs z s kind d n w
-    → w ≡ Counts counts
-    → SetAfter z s s₁ t kind r n counts
-    → Tadded z s s₁ t kind d r n Done
+    : {z : Sizes} {s s₁ : List ℕ} {t : ℕ} (kind : Kind) {d : Duration} {r n counts : ℕ}
+    → TaddAsks z s t d r
+    → CountedTo z s (kind_number kind) d n counts
+    → SetAfter z s s₁ t (kind_number kind) r n counts
+    → Tadded z s s₁ t (kind_number kind) d r n (Ok Done)
 unfolding open_perform open_outcome means told machine_of
-tadd-done {z} {s} {s₁} {t} {kind} {d} {r} {n} {counts} a x e y =
+tadd-done {z} {s} {s₁} {t} kind {d} {r} {n} {counts} a c y =
     let m : Machine = machine_in z s in
-    let c : CountedAs z s kind d n (Counts counts) = subst (CountedAs z s kind d n) e x in
     record {
       stepped = λ k.
-          stepped-done (tadd-number a c k ∙ c.number) (y.holds 0 a.well.holds) y.spares refl refl
+          stepped-done (tadd-number kind a c.secs c.reading k ∙ c.number) (y.holds 0 a.well.holds) y.spares refl refl
           (y.machine
-          ∙ ap (λ (v : ℕ). add t (n + v) (with_setting t (setting_of (period_for kind v) r) (with_last_now n m))) c.lasts.counts);
+          ∙ ap (λ (v : ℕ). add t (n + v) (with_setting t (setting_of (period_for (kind_number kind) v) r) (with_last_now n m))) c.lasts.counts);
     }

@@ -14,6 +14,7 @@ use Rattle.holds.specs.Leftover.{alive-kin}
 use Rattle.holds.specs.Touched.{Spares, spares-after}
 use Rattle.timers.specs.Find.{timers_in}
 use Rattle.timer.specs.Only.{Owing}
+use Rattle.timer.specs.Del.{TimerAsks}
 use Rattle.timer.specs.Add.{add_mem, Added}
 use Rattle.clockwork.specs.Stores.{Became}
 use Rattle.clockwork.specs.Clock.{now_stores}
@@ -38,6 +39,13 @@ pub record AddedAfter (z : Sizes) (s s' : List ℕ) (t n counts : ℕ) : Type 0 
   pub kin : SameKin (mem_in z s) (mem_in z s')
 
 -- What the code of `add_after` shows.
+pub after-add
+    : {z : Sizes} {s s₁ : List ℕ} {t n counts : ℕ}
+    → AfterAsks z s t n counts
+    → Became z s s₁ (now_stores n) (with_last_now n (machine_in z s))
+    → TimerAsks z s₁ t
+after-add a b = record { owing = b.owing; index = a.index }
+
 pub added-after
     : {z : Sizes} {s s₁ s₂ : List ℕ} {t n counts : ℕ}
     → Became z s s₁ (now_stores n) (with_last_now n (machine_in z s))

@@ -1,11 +1,11 @@
--- Readings of the clock, and clock: what the code shows.
-use Rattle.std.specs.Prelude.{◌≡◌, refl, Bool, true, false, List, ℕ, ◌+◌, ◌≤◌, ◌<◌, ltb}
-use Rattle.std.proofs.Common.{sym, ap, ◌∙◌, arith, Fits, lt-ltb, le-ltb, ltb-false}
+-- clock: what the code shows.
+use Rattle.std.specs.Prelude.{◌≡◌, refl, Bool, true, false, List, ℕ, ◌+◌, Ok, Err}
+use Rattle.std.proofs.Common.{sym, ap, ◌∙◌, arith, Fits, lt-ltb}
 use Rattle.std.specs.Int.{w64}
 use Rattle.clock.specs.Counts.{counts_of}
 use Rattle.machine.specs.Machine.{Setting}
 use Rattle.machine.specs.Step.{clock}
-use Rattle.machine.specs.Table.{in_range, bad_now}
+use Rattle.machine.specs.Table.{in_range}
 use Rattle.machine.specs.Outcome.{open_outcome}
 use Rattle.machine.specs.Update.{with_last_now}
 use Rattle.machine.specs.Timers.{add}
@@ -15,33 +15,19 @@ use Rattle.state.specs.Fields as fields
 use Rattle.state.specs.Abs.{machine_of}
 use Rattle.state.specs.Places.{mem_in}
 use Rattle.state.specs.declared.Sizes.{Sizes}
-use Rattle.exact.specs.Sums.{true-false}
 use Rattle.exact.specs.Bounds.{at_most}
 use Rattle.exact.specs.Parts.{setting_of_lem}
 use Rattle.holds.specs.Whole.{holds-bounds}
 use Rattle.holds.specs.Did.{machine_in}
-use Rattle.outcome.specs.declared.Reply.TheVariants.{Done, Refused}
+use Rattle.clockwork.specs.Reading.{BadNow}
+use Rattle.outcome.specs.declared.Reply.TheVariants.{Done}
+use Rattle.outcome.specs.declared.Refusal.TheVariants.{BadReading}
 use Rattle.outcome.specs.Means.{means, told}
 use Rattle.outcome.specs.Stepped.{Well, left_bytes}
 use Rattle.outcome.specs.Laws.{stepped-done, stepped-refused}
 use Rattle.outcome.specs.RefusalsTime.{refused-clock_8, allowed-clock}
 use Rattle.outcome.specs.Took.{Took}
 use Rattle.proc_timer.specs.After.{AfterAsks, AddedAfter}
-
--- Whether a reading is refused; one that is not is small.
-pub record BadNow (z : Sizes) (s : List ℕ) (n : ℕ) (b : Bool) : Type 0 where
-  pub answer : b ≡ bad_now (machine_in z s) n
-  pub small : b ≡ false → n ≤ 2251799813685247
-
-pub bad_early : {z : Sizes} {s : List ℕ} {n last : ℕ} → last ≡ mem_in z s fields.last_now 0 → n < last → BadNow z s n true
-unfolding bad_now machine_of
-bad_early {z} {s} {n} {last} e l =
-    record { answer = sym (rw (← e, lt-ltb n last l)); small = λ f. absurd (true-false f) }
-
-pub bad_late : {z : Sizes} {s : List ℕ} {n last : ℕ} → last ≡ mem_in z s fields.last_now 0 → last ≤ n → BadNow z s n (ltb 2251799813685247 n)
-unfolding bad_now machine_of
-bad_late {z} {s} {n} {last} e l =
-    record { answer = sym (rw (← e, le-ltb n last l)); small = λ f. ltb-false 2251799813685247 n f }
 
 -- The period of timer 0 is 10 ms.
 tick_is : {z : Sizes} {s : List ℕ} {p : ℕ} → Well z s → p ≡ mem_in z s fields.period 0 → p ≡ counts_of z.hz 0 10000000
@@ -65,7 +51,7 @@ clock-range : (z : Sizes) (s : List ℕ) (n : ℕ) → Fits w64 n → in_range (
 unfolding in_range
 clock-range z s n f = lt-ltb n 18446744073709551616 (omega (arith, f))
 
-pub clock_8 : {z : Sizes} {s : List ℕ} {n : ℕ} {b : Bool} → Well z s → Fits w64 n → BadNow z s n b → b ≡ true → Took z s s (clock n) (Refused 8)
+pub clock_8 : {z : Sizes} {s : List ℕ} {n : ℕ} {b : Bool} → Well z s → Fits w64 n → BadNow z s n b → b ≡ true → Took z s s (clock n) (Err BadReading)
 unfolding left_by left_bytes
 clock_8 {z} {s} {n} w f b e =
     record {
@@ -81,7 +67,7 @@ pub clock-done
     → b ≡ false
     → p ≡ mem_in z s fields.period 0
     → AddedAfter z s s₁ 0 n p
-    → Took z s s₁ (clock n) Done
+    → Took z s s₁ (clock n) (Ok Done)
 unfolding open_perform open_outcome means told machine_of
 clock-done {z} {s} {s₁} {n} {p} w f b e q a =
     record {

@@ -1,6 +1,6 @@
 -- How many counts a duration takes, or the number that it and a reading of the clock meet.
 use Rattle.std.specs.Prelude.{if◌then◌else◌, ◌≡◌, Bool, true, false, List, ℕ, ◌≤◌, ◌<◌, ltb}
-use Rattle.std.proofs.Common.{sym, ap, ◌∙◌, Fits, lt-ltb, le-ltb, eq-eqb, ne_eqb}
+use Rattle.std.proofs.Common.{sym, ap, ◌∙◌, Fits, subst, lt-ltb, le-ltb}
 use Rattle.std.proofs.Math.Option.{Option, none, some}
 use Rattle.std.specs.Int.{w64}
 use Rattle.clock.specs.Counts.{counts_of, zero_duration, shorter}
@@ -10,28 +10,28 @@ use Rattle.machine.specs.Table.{bad_now, long_counts}
 use Rattle.state.specs.Abs.{machine_of}
 use Rattle.state.specs.declared.Sizes.{Sizes}
 use Rattle.holds.specs.Did.{machine_in}
+use Rattle.clockwork.specs.Reading.{BadNow}
+use Rattle.outcome.specs.declared.Refusal.{Refusal}
+use Rattle.outcome.specs.declared.Refusal.TheVariants.{ShortDuration, BadReading, TooManyCounts}
+use Rattle.outcome.specs.Means.{number}
 use Rattle.outcome.specs.RefusalsTime.{too_short}
-use Rattle.proc_timer.specs.declared.Counted.{Counted}
-use Rattle.proc_timer.specs.declared.Counted.TheVariants.{Counts, Meets}
-use Rattle.proc_timer.specs.Clock.{BadNow}
+use Rattle.proc_timer.specs.declared.Kind.{Kind}
+use Rattle.proc_timer.specs.declared.Kind.TheVariants.{Relative, Periodic}
+use Rattle.proc_timer.specs.Kinds.{kind_number}
 
 -- The duration is too short for its kind.
 pub record TooShort (kind : ℕ) (d : Duration) (b : Bool) : Type 0 where
   pub answer : b ≡ too_short kind d.secs d.nanos
 
-pub short-once : {kind : ℕ} {d : Duration} {b : Bool} → kind ≡ 0 → b ≡ zero_duration d.secs d.nanos → TooShort kind d b
-short-once {kind} e q = record { answer = q ∙ rw (eq-eqb kind 0 e) }
+pub short-once : {kind : Kind} {d : Duration} {b : Bool} → kind ≡ Relative → b ≡ zero_duration d.secs d.nanos → TooShort (kind_number kind) d b
+short-once {kind} {d} {b} e q = subst (λ (x : Kind). TooShort (kind_number x) d b) (sym e) (record { answer = q })
 
-pub short-period : {kind : ℕ} {d : Duration} {b : Bool} → (kind ≡ 0 → ⊥) → b ≡ shorter d.secs d.nanos 0 100000 → TooShort kind d b
-short-period {kind} ne q = record { answer = q ∙ rw (ne_eqb kind 0 ne) }
+pub short-period : {kind : Kind} {d : Duration} {b : Bool} → kind ≡ Periodic → b ≡ shorter d.secs d.nanos 0 100000 → TooShort (kind_number kind) d b
+short-period {kind} {d} {b} e q = subst (λ (x : Kind). TooShort (kind_number x) d b) (sym e) (record { answer = q })
 
 -- The number that a duration for a timer of a kind meets, and the reading of the clock with it: 7, 8 or 9, in this order.
 abbrev pub number_for : Machine → (kind S N NOW : ℕ) → Option ℕ
 number_for m kind S N NOW = if too_short kind S N then some 7 else if bad_now m NOW then some 8 else if long_counts m S N then some 9 else none
-
-abbrev pub number_in : Counted → Option ℕ
-number_in (Meets number) = some number
-number_in (Counts counts) = none
 
 -- The counts are the duration's, and a deadline so many after the reading has 64 bits.
 pub record Lasts (z : Sizes) (d : Duration) (n c : ℕ) : Type 0 where
@@ -39,13 +39,16 @@ pub record Lasts (z : Sizes) (d : Duration) (n c : ℕ) : Type 0 where
   pub few : c ≤ 9223372036854775807
   pub small : n ≤ 2251799813685247
 
-abbrev pub LastsIn : Sizes → Duration → ℕ → Counted → Type 0
-LastsIn z d n (Meets number) = Unit {0}
-LastsIn z d n (Counts counts) = Lasts z d n counts
+-- No number is met, and the counts are so many.
+pub record CountedTo (z : Sizes) (s : List ℕ) (kind : ℕ) (d : Duration) (n c : ℕ) : Type 0 where
+  pub number : number_for (machine_in z s) kind d.secs d.nanos n ≡ none
+  pub lasts : Lasts z d n c
+  pub secs : Fits w64 d.secs
+  pub reading : Fits w64 n
 
-pub record CountedAs (z : Sizes) (s : List ℕ) (kind : ℕ) (d : Duration) (n : ℕ) (w : Counted) : Type 0 where
-  pub number : number_for (machine_in z s) kind d.secs d.nanos n ≡ number_in w
-  pub lasts : LastsIn z d n w
+-- The number of a refusal is met.
+pub record NotCounted (z : Sizes) (s : List ℕ) (kind : ℕ) (d : Duration) (n : ℕ) (e : Refusal) : Type 0 where
+  pub number : number_for (machine_in z s) kind d.secs d.nanos n ≡ some (number e)
   pub secs : Fits w64 d.secs
   pub reading : Fits w64 n
 
@@ -65,8 +68,8 @@ pub counted_7
     → Fits w64 n
     → TooShort kind d b
     → b ≡ true
-    → CountedAs z s kind d n (Meets 7)
-counted_7 x y h e = record { number = rw (sym h.answer ∙ e); lasts = tt; secs = x; reading = y }
+    → NotCounted z s kind d n ShortDuration
+counted_7 x y h e = record { number = rw (sym h.answer ∙ e); secs = x; reading = y }
 
 pub counted_8
     : {z : Sizes} {s : List ℕ} {kind : ℕ} {d : Duration} {n : ℕ} {b c : Bool}
@@ -76,8 +79,8 @@ pub counted_8
     → b ≡ false
     → BadNow z s n c
     → c ≡ true
-    → CountedAs z s kind d n (Meets 8)
-counted_8 x y h e q f = record { number = rw (sym h.answer ∙ e, sym q.answer ∙ f); lasts = tt; secs = x; reading = y }
+    → NotCounted z s kind d n BadReading
+counted_8 x y h e q f = record { number = rw (sym h.answer ∙ e, sym q.answer ∙ f); secs = x; reading = y }
 
 pub counted_9
     : {z : Sizes} {s : List ℕ} {kind : ℕ} {d : Duration} {n counts : ℕ} {b c : Bool}
@@ -89,11 +92,10 @@ pub counted_9
     → c ≡ false
     → counts ≡ counts_of z.hz d.secs d.nanos
     → 9223372036854775807 < counts
-    → CountedAs z s kind d n (Meets 9)
+    → NotCounted z s kind d n TooManyCounts
 counted_9 {z} {s} {kind} {d} {n} {counts} x y h e q f v l =
     record {
       number = rw (sym h.answer ∙ e, sym q.answer ∙ f, long-is z s d v (lt-ltb 9223372036854775807 counts l));
-      lasts = tt;
       secs = x;
       reading = y;
     }
@@ -108,7 +110,7 @@ pub counted-all
     → c ≡ false
     → counts ≡ counts_of z.hz d.secs d.nanos
     → counts ≤ 9223372036854775807
-    → CountedAs z s kind d n (Counts counts)
+    → CountedTo z s kind d n counts
 counted-all {z} {s} {kind} {d} {n} {counts} x y h e q f v l =
     record {
       number = rw (sym h.answer ∙ e, sym q.answer ∙ f, long-is z s d v (le-ltb 9223372036854775807 counts l));

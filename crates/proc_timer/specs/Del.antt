@@ -1,5 +1,5 @@
 -- tdel: what it asks, and what the code shows.
-use Rattle.std.specs.Prelude.{◌≡◌, refl, Bool, List, ℕ, ◌≤◌, ◌<◌}
+use Rattle.std.specs.Prelude.{◌≡◌, refl, Bool, List, ℕ, ◌≤◌, ◌<◌, Ok}
 use Rattle.std.proofs.Math.Option.{none}
 use Rattle.std.proofs.Common.{arith, lt-ltb, le-leb}
 use Rattle.machine.specs.Step.{tdel}
@@ -31,6 +31,6 @@ tdel-allowed : {z : Sizes} {s : List ℕ} {t : ℕ} → KernelAsks z s t → (k 
 unfolding machine_of in_range
 tdel-allowed {z} {s} {t} a k = allowed-tdel (machine_in z s) k t (rw (le-leb 1 t a.some, lt-ltb t z.timers a.index))
 
-pub tdel-done : {z : Sizes} {s s₁ : List ℕ} {t : ℕ} → KernelAsks z s t → Deleted z s s₁ t → Took z s s₁ (tdel t) Done
+pub tdel-done : {z : Sizes} {s s₁ : List ℕ} {t : ℕ} → KernelAsks z s t → Deleted z s s₁ t → Took z s s₁ (tdel t) (Ok Done)
 unfolding open_perform open_outcome means told
 tdel-done a d = record { stepped = λ k. stepped-done (tdel-allowed a k) (d.holds 0 a.well.holds) d.spares refl refl d.machine }

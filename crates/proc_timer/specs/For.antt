@@ -1,5 +1,5 @@
 -- tsleep once its duration is counted: by the condition and the Rendez.
-use Rattle.std.specs.Prelude.{if◌then◌else◌, ◌≡◌, refl, Bool, true, false, List, [], ℕ, suc, ◌+◌, ◌-◌, ◌≤◌, ◌<◌}
+use Rattle.std.specs.Prelude.{if◌then◌else◌, ◌≡◌, refl, Bool, true, false, List, [], ℕ, suc, ◌+◌, ◌-◌, ◌≤◌, ◌<◌, Result, Ok, Err}
 use Rattle.std.proofs.Common.{sym, ap, ◌∙◌, arith}
 use Rattle.std.proofs.Math.Option.{some}
 use Rattle.machine.specs.Machine.{Machine, in_tsleep, condition, sleeper}
@@ -20,7 +20,9 @@ use Rattle.holds.specs.Did.{machine_in}
 use Rattle.holds.specs.Touched.{Spares}
 use Rattle.clockwork.specs.Conditions.{Condition}
 use Rattle.outcome.specs.declared.Reply.{Reply}
-use Rattle.outcome.specs.declared.Reply.TheVariants.{Done, Asleep, Refused}
+use Rattle.outcome.specs.declared.Reply.TheVariants.{Done, Asleep}
+use Rattle.outcome.specs.declared.Refusal.{Refusal}
+use Rattle.outcome.specs.declared.Refusal.TheVariants.{RendezTaken}
 use Rattle.outcome.specs.Means.{means, told}
 use Rattle.outcome.specs.RefusalsRun.{taken_true, taken_free, taken-there}
 use Rattle.proc_timer.specs.Own.{UpAsks, Returned, UntilAsks, SleepsUntil}
@@ -41,7 +43,7 @@ for_of m own i r c n counts =
     else answered Answer.asleep (sleep_on i r (in_tsleep r c) (add own (n + counts) (with_last_now n m)))
 
 -- The answer and the state are those of an outcome.
-pub record Came (z : Sizes) (s s' : List ℕ) (a : Reply) (o : Outcome) : Type 0 where
+pub record Came (z : Sizes) (s s' : List ℕ) (a : Result Reply Refusal) (o : Outcome) : Type 0 where
   pub holds : Holds z s' 0
   pub reply : means a [] [] ≡ o.reply
   pub told : [] ≡ told o.reply
@@ -49,8 +51,8 @@ pub record Came (z : Sizes) (s s' : List ℕ) (a : Reply) (o : Outcome) : Type 0
   pub spares : Spares z s s'
 
 -- Refused where the condition is false and another is asleep there, and done otherwise.
-pub record SleptFor (z : Sizes) (s s' : List ℕ) (i r c n counts : ℕ) (a : Reply) : Type 0 where
-  pub refused : taken (machine_in z s) r c ≡ true → (a ≡ Refused 5) × (s' ≡ s)
+pub record SleptFor (z : Sizes) (s s' : List ℕ) (i r c n counts : ℕ) (a : Result Reply Refusal) : Type 0 where
+  pub refused : taken (machine_in z s) r c ≡ true → (a ≡ Err RendezTaken) × (s' ≡ s)
   pub done : taken (machine_in z s) r c ≡ false → Came z s s' a (for_of (machine_in z s) (z.timers + i) i r c n counts)
 
 -- A true condition: the call returns.
@@ -59,7 +61,7 @@ pub for_done
     → Condition z s c b
     → b ≡ true
     → Returned z s s₁ i n
-    → SleptFor z s s₁ i r c n counts Done
+    → SleptFor z s s₁ i r c n counts (Ok Done)
 unfolding open_outcome means told
 for_done {z} {s} {s₁} {i} {r} {c} {n} {counts} h e w =
     let k : condition (machine_in z s) c ≡ true = sym h.answer ∙ e in
@@ -76,7 +78,7 @@ pub for_5
     → b ≡ false
     → l ≡ mem_in z s fields.sleeper_of r
     → (l ≡ 0 → ⊥)
-    → SleptFor z s s i r c n counts (Refused 5)
+    → SleptFor z s s i r c n counts (Err RendezTaken)
 for_5 {z} {s} {i} {r} {c} {n} {counts} {l} a h e d ne =
     let j : l ≡ suc (l - 1) = omega arith in
     let o : sleeper (machine_in z s) r ≡ some (l - 1) = sleeper_of_lem (holds-bounds a.up.holds) r ∙ ap link_to (sym d ∙ j) in
@@ -103,7 +105,7 @@ pub for_asleep
     → l ≡ mem_in z s fields.sleeper_of r
     → l ≡ 0
     → SleepsUntil z s s₁ i r c n counts
-    → SleptFor z s s₁ i r c n counts Asleep
+    → SleptFor z s s₁ i r c n counts (Ok Asleep)
 unfolding open_outcome means told
 for_asleep {z} {s} {s₁} {i} {r} {c} {n} {counts} {l} a h e d f w =
     let k : condition (machine_in z s) c ≡ false = sym h.answer ∙ e in

@@ -1,4 +1,5 @@
 -- What the steps of timers and the clock ask and ensure.
+pub mod Kinds
 pub mod Del
 pub mod After
 pub mod Clock

@@ -1,6 +1,6 @@
 -- A kernel timer is set and queued: what `set_after` asks and ensures.
 use Rattle.std.specs.Prelude.{if◌then◌else◌, ◌≡◌, refl, Bool, true, false, List, ℕ, ◌+◌, ◌≤◌, ◌<◌, eqb}
-use Rattle.std.proofs.Common.{ap, ◌∙◌, arith, eq-eqb, ne_eqb}
+use Rattle.std.proofs.Common.{sym, ap, subst, ◌∙◌, arith}
 use Rattle.machine.specs.Machine.{Machine}
 use Rattle.machine.specs.Update.{with_last_now, with_setting, open_update}
 use Rattle.machine.specs.Timers.{add}
@@ -12,6 +12,9 @@ use Rattle.holds.specs.Touched.{Spares, spares-after}
 use Rattle.timer.specs.Only.{Owing}
 use Rattle.clockwork.specs.Stores.{Became}
 use Rattle.clockwork.specs.Settings.{setting_stores, setting_of, SettingAsks}
+use Rattle.proc_timer.specs.declared.Kind.{Kind}
+use Rattle.proc_timer.specs.declared.Kind.TheVariants.{Relative, Periodic}
+use Rattle.proc_timer.specs.Kinds.{kind_number}
 use Rattle.proc_timer.specs.After.{AfterAsks, AddedAfter}
 
 -- The period of a timer of a kind that fires after so many counts.
@@ -21,11 +24,11 @@ period_for kind counts = if eqb kind 0 then 0 else counts
 pub record Period (kind counts p : ℕ) : Type 0 where
   pub answer : p ≡ period_for kind counts
 
-pub period-once : {kind counts : ℕ} → kind ≡ 0 → Period kind counts 0
-period-once {kind} e = record { answer = rw (eq-eqb kind 0 e) }
+pub period-once : {kind : Kind} {counts : ℕ} → kind ≡ Relative → Period (kind_number kind) counts 0
+period-once {kind} {counts} e = subst (λ (x : Kind). Period (kind_number x) counts 0) (sym e) (record { answer = refl })
 
-pub period-each : {kind counts : ℕ} → (kind ≡ 0 → ⊥) → Period kind counts counts
-period-each {kind} ne = record { answer = rw (ne_eqb kind 0 ne) }
+pub period-each : {kind : Kind} {counts : ℕ} → kind ≡ Periodic → Period (kind_number kind) counts counts
+period-each {kind} {counts} e = subst (λ (x : Kind). Period (kind_number x) counts counts) (sym e) (record { answer = refl })
 
 period-most : (kind counts : ℕ) → counts ≤ 9223372036854775807 → period_for kind counts ≤ 9223372036854775807
 period-most kind counts l = go (eqb kind 0)
@@ -35,7 +38,7 @@ period-most kind counts l = go (eqb kind 0)
     go false = l
 
 -- A kernel timer is set and queued: what `set_after` asks and ensures.
-pub record SetAsks (z : Sizes) (s : List ℕ) (t kind r n counts : ℕ) : Type 0 where
+pub record SetAsks (z : Sizes) (s : List ℕ) (t r n counts : ℕ) : Type 0 where
   pub owing : Owing z s
   pub index : t < z.timers
   pub there : r < z.rendez
@@ -48,13 +51,13 @@ pub record SetAfter (z : Sizes) (s s' : List ℕ) (t kind r n counts : ℕ) : Ty
   pub spares : Spares z s s'
 
 pub set-asks
-    : {z : Sizes} {s : List ℕ} {t kind r n counts p : ℕ} → SetAsks z s t kind r n counts → Period kind counts p → SettingAsks z s t p r
+    : {z : Sizes} {s : List ℕ} {t kind r n counts p : ℕ} → SetAsks z s t r n counts → Period kind counts p → SettingAsks z s t p r
 set-asks {kind = kind} {counts = counts} a p =
     record { owing = a.owing; index = a.index; range = omega (arith, p.answer, period-most kind counts a.few); there = a.there }
 
 pub set_after-asks
-    : {z : Sizes} {s s₁ : List ℕ} {t kind r n counts p : ℕ}
-    → SetAsks z s t kind r n counts
+    : {z : Sizes} {s s₁ : List ℕ} {t r n counts p : ℕ}
+    → SetAsks z s t r n counts
     → Became z s s₁ (setting_stores t p r) (with_setting t (setting_of p r) (machine_in z s))
     → AfterAsks z s₁ t n counts
 set_after-asks a b = record { owing = b.owing; index = omega (arith, a.index); small = a.small; few = a.few }

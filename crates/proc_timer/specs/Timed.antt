@@ -1,9 +1,9 @@
 -- tsleep of a process that runs: a number is met, or it goes by the condition and the Rendez.
-use Rattle.std.specs.Prelude.{if◌then◌else◌, ◌≡◌, refl, Bool, true, false, ◌&&◌, List, ℕ, ◌+◌, eqb}
+use Rattle.std.specs.Prelude.{if◌then◌else◌, ◌≡◌, refl, Bool, true, false, ◌&&◌, List, ℕ, ◌+◌, eqb, Result, Err}
 use Rattle.std.proofs.Common.{sym, ap, subst, ◌∙◌, Fits}
 use Rattle.std.proofs.Math.Bool.{and-false}
 use Rattle.std.proofs.Math.Option.{Option, none, some}
-use Rattle.std.specs.Int.{w8}
+use Rattle.std.specs.Int.{w8, w64}
 use Rattle.clock.specs.Counts.{counts_of, zero_duration}
 use Rattle.clock.specs.declared.Duration.{Duration}
 use Rattle.machine.specs.Basics.{is_none}
@@ -18,17 +18,16 @@ use Rattle.state.specs.Abs.{link_to, machine_of}
 use Rattle.state.specs.declared.Sizes.{Sizes}
 use Rattle.holds.specs.Did.{machine_in}
 use Rattle.outcome.specs.declared.Reply as code
-use Rattle.outcome.specs.declared.Reply.TheVariants.{Refused}
-use Rattle.outcome.specs.Means.{told, status_of}
+use Rattle.outcome.specs.declared.Refusal.{Refusal}
+use Rattle.outcome.specs.declared.Refusal.TheVariants.{RendezTaken}
+use Rattle.outcome.specs.Means.{number, told, status_of}
 use Rattle.outcome.specs.Stepped.{left_bytes}
 use Rattle.outcome.specs.Laws.{stepped-done, stepped-refused}
 use Rattle.outcome.specs.Refusals.{step}
 use Rattle.outcome.specs.RefusalsTsleep.{refusal-tsleep}
 use Rattle.outcome.specs.Room.{well-room}
-use Rattle.proc_sleep.specs.Running.{current-is}
-use Rattle.proc_timer.specs.declared.Counted.{Counted}
-use Rattle.proc_timer.specs.declared.Counted.TheVariants.{Counts, Meets}
-use Rattle.proc_timer.specs.Counting.{number_for, CountedAs}
+use Rattle.outcome.specs.Running.{current-is}
+use Rattle.proc_timer.specs.Counting.{number_for, CountedTo, NotCounted}
 use Rattle.proc_timer.specs.For.{ForAsks, for_of, Came, SleptFor}
 use Rattle.proc_timer.specs.Tsleep.{Tslept, tsleep-range, RunningAsks}
 
@@ -51,46 +50,44 @@ first-number false false true o = refl
 first-number false false false o = refl
 
 tsleep-number
-    : {z : Sizes} {s : List ℕ} {i r c : ℕ} {d : Duration} {n : ℕ} {w : Counted}
+    : {z : Sizes} {s : List ℕ} {i r c : ℕ} {d : Duration} {n : ℕ}
     → RunningAsks z s i r d
-    → CountedAs z s 0 d n w
+    → Fits w64 d.secs
+    → Fits w64 n
     → Fits w8 c
     → refusal (machine_in z s) (step false (tsleep r c d.secs d.nanos n))
     ≡ first (number_for (machine_in z s) 0 d.secs d.nanos n) (if taken (machine_in z s) r c then some 5 else none)
-tsleep-number {z} {s} {i} {r} {c} {d} {n} a x f =
+tsleep-number {z} {s} {i} {r} {c} {d} {n} a x y f =
     let m : Machine = machine_in z s in
     let up : is_none m.up ≡ false = ap (is_none {A = ℕ}) (up_is a) in
     refusal-tsleep m false r c d.secs d.nanos n
-    ∙ rw (tsleep-range a.asks f x.secs x.reading, up)
+    ∙ rw (tsleep-range a.asks f x y, up)
     (first-number (zero_duration d.secs d.nanos) (bad_now m n) (long_counts m d.secs d.nanos) (if taken m r c then some 5 else none))
 
 -- A number is met.
 pub tsleep-refused
-    : {z : Sizes} {s : List ℕ} {i r c : ℕ} {d : Duration} {n number : ℕ} {w : Counted}
+    : {z : Sizes} {s : List ℕ} {i r c : ℕ} {d : Duration} {n : ℕ} {e : Refusal}
     → RunningAsks z s i r d
     → Fits w8 c
-    → CountedAs z s 0 d n w
-    → w ≡ Meets number
-    → Tslept z s s false r c d n (Refused number)
+    → NotCounted z s 0 d n e
+    → Tslept z s s false r c d n (Err e)
 unfolding left_by left_bytes open_table open_step
-tsleep-refused {z} {s} {i} {r} {c} {d} {n} {number} a f y e =
-    let x : CountedAs z s 0 d n (Meets number) = subst (CountedAs z s 0 d n) e y in
-    let o : eqb number 11 && false ≡ false = and-false (eqb number 11) in
+tsleep-refused {z} {s} {i} {r} {c} {d} {n} {e} a f x =
+    let o : eqb (number e) 11 && false ≡ false = and-false (eqb (number e) 11) in
     record {
       stepped =
-          stepped-refused (tsleep-number a x f ∙ ap (λ (v : Option ℕ). first v (if taken (machine_in z s) r c then some 5 else none)) x.number)
+          stepped-refused
+          (tsleep-number a x.secs x.reading f ∙ ap (λ (v : Option ℕ). first v (if taken (machine_in z s) r c then some 5 else none)) x.number)
           a.asks.well.holds (rw o) (rw o);
     }
 
 -- None is: it goes by the condition and the Rendez.
 pub tsleep-asks
-    : {z : Sizes} {s : List ℕ} {i r : ℕ} {d : Duration} {n counts : ℕ} {w : Counted}
+    : {z : Sizes} {s : List ℕ} {i r : ℕ} {d : Duration} {n counts : ℕ}
     → RunningAsks z s i r d
-    → CountedAs z s 0 d n w
-    → w ≡ Counts counts
+    → CountedTo z s 0 d n counts
     → ForAsks z s i r n counts
-tsleep-asks {z} {s} {i} {r} {d} {n} {counts} a y e =
-    let x : CountedAs z s 0 d n (Counts counts) = subst (CountedAs z s 0 d n) e y in
+tsleep-asks a x =
     record {
       up = record { holds = a.asks.well.holds; runs = a.runs };
       index = a.asks.index;
@@ -109,25 +106,21 @@ tsleep-is m i r c S N n counts u e =
     ap (λ (j : ℕ). for_of m (own_timer j m) j r c n (counts_of m.sizes.hz S N)) (current-is m i u) ∙ ap (for_of m (own_timer i m) i r c n) (sym e)
 
 pub tsleep_for
-    : {z : Sizes} {s s₁ : List ℕ} {i r c : ℕ} {d : Duration} {n counts : ℕ} {w : Counted} {a : code.Reply}
+    : {z : Sizes} {s s₁ : List ℕ} {i r c : ℕ} {d : Duration} {n counts : ℕ} {a : Result code.Reply Refusal}
     → RunningAsks z s i r d
     → Fits w8 c
-    → CountedAs z s 0 d n w
-    → w ≡ Counts counts
+    → CountedTo z s 0 d n counts
     → SleptFor z s s₁ i r c n counts a
     → Tslept z s s₁ false r c d n a
 unfolding left_by left_bytes status_of machine_of own_timer
-tsleep_for {z} {s} {s₁} {i} {r} {c} {d} {n} {counts} {w} {a} x f v e y = go (taken m r c) refl
+tsleep_for {z} {s} {s₁} {i} {r} {c} {d} {n} {counts} {a} x f q y = go (taken m r c) refl
   where
     m : Machine
     m = machine_in z s
 
-    q : CountedAs z s 0 d n (Counts counts)
-    q = subst (CountedAs z s 0 d n) e v
-
     number : (t : Bool) → taken m r c ≡ t → refusal m (step false (tsleep r c d.secs d.nanos n)) ≡ (if t then some 5 else none)
     number t g =
-        tsleep-number x q f
+        tsleep-number x q.secs q.reading f
         ∙ ap (λ (v : Option ℕ). first v (if taken m r c then some 5 else none)) q.number
         ∙ ap (λ (v : Bool). if◌then◌else◌ {A = Option ℕ} v (some 5) none) g
 
@@ -136,8 +129,8 @@ tsleep_for {z} {s} {s₁} {i} {r} {c} {d} {n} {counts} {w} {a} x f v e y = go (t
 
     go : (t : Bool) → taken m r c ≡ t → Tslept z s s₁ false r c d n a
     go true g =
-        let b : (a ≡ Refused 5) × (s₁ ≡ s) = y.refused g in
-        let t : Tslept z s s false r c d n (Refused 5) = record { stepped = stepped-refused (number true g) x.asks.well.holds refl refl } in
+        let b : (a ≡ Err RendezTaken) × (s₁ ≡ s) = y.refused g in
+        let t : Tslept z s s false r c d n (Err RendezTaken) = record { stepped = stepped-refused (number true g) x.asks.well.holds refl refl } in
         subst (λ (v : List ℕ). Tslept z s v false r c d n a) (sym b.1) (subst (Tslept z s s false r c d n) (sym b.0) t)
     go false g =
         let o : Came z s s₁ a (for_of m (z.timers + i) i r c n counts) = y.done g in

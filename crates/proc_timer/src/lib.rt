@@ -1,14 +1,16 @@
 // The steps of timers and the clock: tdel, clock, tadd, tsleep.
 #![tactic(auto)]
 
-ghost use Rattle.std.specs.Prelude.{false};
+ghost use Rattle.std.specs.Prelude.{◌≡◌, false, ◌<◌, Ok, IfOk, IfErr, MatchResult};
 ghost use Rattle.machine.specs.Step.{tdel, clock};
+ghost use Rattle.state.specs.Lent.{Same};
+ghost use Rattle.outcome.specs.declared.Refusal.TheVariants.{NoSuchStep};
 ghost use Rattle.outcome.specs.Stepped.{Well};
 ghost use Rattle.outcome.specs.Took.{Took};
 ghost use Rattle.proc_timer.specs.Del.{KernelAsks};
 ghost use Rattle.proc_timer.specs.After.{AfterAsks, AddedAfter};
-ghost use Rattle.proc_timer.specs.Clock.{BadNow};
-ghost use Rattle.proc_timer.specs.Counting.{TooShort, CountedAs};
+ghost use Rattle.proc_timer.specs.Kinds.{kind_number};
+ghost use Rattle.proc_timer.specs.Counting.{TooShort, CountedTo, NotCounted};
 ghost use Rattle.proc_timer.specs.Set.{Period, SetAsks, SetAfter};
 ghost use Rattle.proc_timer.specs.Add.{TaddAsks, Tadded};
 ghost use Rattle.proc_timer.specs.Own.{UpAsks, Returned, UntilAsks, SleepsUntil};
@@ -16,161 +18,164 @@ ghost use Rattle.proc_timer.specs.For.{ForAsks, SleptFor};
 ghost use Rattle.proc_timer.specs.Tsleep.{TsleepAsks, RunningAsks, Tslept};
 
 use clock::Duration;
-use outcome::Reply;
+use outcome::{Refusal, Reply};
 use record::Resume;
-use state::{Index, Sizes};
+use state::{Index, State, View, field};
 
 // The limit of counts, 2^63 - 1.
 const MOST_COUNTS: u64 = 9_223_372_036_854_775_807;
 
-// The kind of a timer that fires once; the other kind is periodic.
-const RELATIVE: u8 = 0;
-
 // The shortest period, 100 µs, in nanoseconds.
 const MIN_PERIOD: u32 = 100_000;
 
-// What a duration comes to: counts, or the number of a refusal.
-#[derive(Clone, Copy)]
-enum Counted {
-    Counts { counts: u64 },
-    Meets { number: u8 },
+// A relative timer fires once; a periodic one returns each time that it has fired.
+#[derive(Clone, Copy, Debug, PartialEq, Eq)]
+pub enum Kind {
+    Relative,
+    Periodic,
 }
 
-// Takes kernel timer `t` off the queue.
-pub fn tdel(s: &mut [u8], z: Sizes, t: Index) -> Reply
-    requires { KernelAsks z s.old t }
-    ensures { Took z s.old s.new (tdel t) result }
-{
-    timer::del(s, z, t);
-    Reply::Done
-}
+// The kinds by the numbers that `tadd` gives them (docs/STEPS.md). No such step where the number is over 1.
+impl TryFrom<u64> for Kind {
+    type Error = Refusal;
 
-// Is a reading of the clock refused: below the last one, or over the limit?
-fn bad_now(s: &[u8], z: Sizes, reading: u64) -> bool
-    requires { Well z s.now }
-    ensures { BadNow z s.now reading result }
-{
-    let last = state::get64(s, z, state::HEADER, state::LAST_NOW, 0);
-    if reading < last {
-        return true;
-    }
-    clockwork::MOST_NOW < reading
-}
+    ghost try_from_gives = { λ n r. MatchResult r (λ k. kind_number k ≡ n) (λ e. (e ≡ NoSuchStep) × (1 < n)) };
 
-// The clock was read: queues timer `t` so many counts after the reading, moving it if it is queued.
-fn add_after(s: &mut [u8], z: Sizes, t: Index, reading: u64, counts: u64)
-    requires { AfterAsks z s.old t reading counts }
-    ensures { AddedAfter z s.old s.new t reading counts }
-{
-    clockwork::set_now(s, z, reading);
-    timer::add(s, z, t, reading + counts);
-}
-
-// Adds timer 0, which ticks.
-pub fn clock(s: &mut [u8], z: Sizes, reading: u64) -> Reply
-    requires { Well z s.old }
-    ensures { Took z s.old s.new (clock reading) result }
-{
-    if bad_now(s, z, reading) {
-        return Reply::Refused { number: 8 };
-    }
-    let period = state::get64(s, z, state::TIMER, state::PERIOD, 0);
-    add_after(s, z, 0, reading, period);
-    Reply::Done
-}
-
-// Is a duration too short for a timer of a kind: no time at all, or too short a period?
-fn too_short(kind: u8, d: Duration) -> bool
-    ensures { TooShort kind d result }
-{
-    if kind == RELATIVE {
-        return d.is_zero();
-    }
-    d.shorter_than(Duration {
-        secs: 0,
-        nanos: MIN_PERIOD,
-    })
-}
-
-// How many counts a duration for a timer of a kind takes, or the number that it and a reading of the clock meet.
-fn counts_of(s: &[u8], z: Sizes, kind: u8, d: Duration, reading: u64) -> Counted
-    requires { Well z s.now }
-    ensures { CountedAs z s.now kind d reading result }
-{
-    if too_short(kind, d) {
-        return Counted::Meets { number: 7 };
-    }
-    if bad_now(s, z, reading) {
-        return Counted::Meets { number: 8 };
-    }
-    let counts = d.to_counts(z.hz);
-    if MOST_COUNTS < counts {
-        return Counted::Meets { number: 9 };
-    }
-    Counted::Counts { counts }
-}
-
-// The period of a timer of a kind that fires after so many counts: 0 where it fires once.
-fn period_of(kind: u8, counts: u64) -> u64
-    ensures { Period kind counts result }
-{
-    if kind == RELATIVE {
-        return 0;
-    }
-    counts
-}
-
-// Sets what kernel timer `t` does, and queues it so many counts after a reading of the clock.
-fn set_after(s: &mut [u8], z: Sizes, t: Index, kind: u8, r: Index, reading: u64, counts: u64)
-    requires { SetAsks z s.old t kind r reading counts }
-    ensures { SetAfter z s.old s.new t kind r reading counts }
-{
-    clockwork::set_timer(s, z, t, period_of(kind, counts), r);
-    add_after(s, z, t, reading, counts);
-}
-
-// Adds kernel timer `t`, relative (kind 0) or periodic (kind 1), to wake Rendez `r`.
-pub fn tadd(
-    s: &mut [u8],
-    z: Sizes,
-    t: Index,
-    kind: u8,
-    d: Duration,
-    r: Index,
-    reading: u64,
-) -> Reply
-    requires { TaddAsks z s.old t kind d r }
-    ensures { Tadded z s.old s.new t kind d r reading result }
-{
-    let counted = counts_of(s, z, kind, d, reading);
-    match counted {
-        Counted::Meets { number } => Reply::Refused { number },
-        Counted::Counts { counts } => {
-            set_after(s, z, t, kind, r, reading, counts);
-            Reply::Done
+    fn try_from(n: u64) -> Result<Self, Refusal> {
+        match n {
+            0 => Ok(Kind::Relative),
+            1 => Ok(Kind::Periodic),
+            _ => Err(Refusal::NoSuchStep),
         }
     }
 }
 
-// The call of process `i`, which runs, returns at a reading of the clock: its own timer is off.
-fn return_at(s: &mut [u8], z: Sizes, i: Index, reading: u64)
-    requires { UpAsks z s.old i }
-    ensures { Returned z s.old s.new i reading }
+// Takes kernel timer `t` off the queue.
+pub fn tdel(s: &mut State, t: Index) -> Reply
+    requires { KernelAsks s.old.sizes s.old.bytes.now t }
+    ensures same { Same s.old s.new }
+    ensures done { Took s.old.sizes s.old.bytes.now s.new.bytes.now (tdel t) (Ok result) }
 {
-    let own = z.timers + i;
-    clockwork::set_now(s, z, reading);
-    timer::del(s, z, own);
+    timer::by_deadline::del(s, t);
+    Reply::Done
+}
+
+// The clock was read: queues timer `t` so many counts after the reading, moving it if it is queued.
+fn add_after(s: &mut State, t: Index, reading: u64, counts: u64)
+    requires { AfterAsks s.old.sizes s.old.bytes.now t reading counts }
+    ensures same { Same s.old s.new }
+    ensures done { AddedAfter s.old.sizes s.old.bytes.now s.new.bytes.now t reading counts }
+{
+    clockwork::time::set_now(s, reading);
+    timer::by_deadline::add(s, t, reading + counts);
+}
+
+// Adds timer 0, which ticks.
+pub fn clock(s: &mut State, reading: u64) -> Result<Reply, Refusal>
+    requires { Well s.old.sizes s.old.bytes.now }
+    ensures same { Same s.old s.new }
+    ensures done { Took s.old.sizes s.old.bytes.now s.new.bytes.now (clock reading) result }
+{
+    if clockwork::time::bad_now(&s.view(), reading) {
+        return Err(Refusal::BadReading);
+    }
+    let period = s.get(field::PERIOD, 0);
+    add_after(s, 0, reading, period);
+    Ok(Reply::Done)
+}
+
+// Is a duration too short for a timer of a kind: no time at all, or too short a period?
+fn too_short(kind: Kind, d: Duration) -> bool
+    ensures { TooShort (kind_number kind) d result }
+{
+    match kind {
+        Kind::Relative => d.is_zero(),
+        Kind::Periodic => d.shorter_than(Duration {
+            secs: 0,
+            nanos: MIN_PERIOD,
+        }),
+    }
+}
+
+// How many counts a duration for a timer of a kind takes, or why it and a reading of the clock are refused.
+fn counts_of(v: &View, kind: Kind, d: Duration, reading: u64) -> Result<u64, Refusal>
+    requires { Well v.now.sizes v.now.bytes.now }
+    ensures ok { IfOk result (CountedTo v.now.sizes v.now.bytes.now (kind_number kind) d reading) }
+    ensures err { IfErr result (NotCounted v.now.sizes v.now.bytes.now (kind_number kind) d reading) }
+{
+    if too_short(kind, d) {
+        return Err(Refusal::ShortDuration);
+    }
+    if clockwork::time::bad_now(v, reading) {
+        return Err(Refusal::BadReading);
+    }
+    let counts = d.to_counts(v.sizes.hz);
+    if MOST_COUNTS < counts {
+        return Err(Refusal::TooManyCounts);
+    }
+    Ok(counts)
+}
+
+// The period of a timer of a kind that fires after so many counts: 0 where it fires once.
+// A number and no Option, since the state's field holds it so.
+fn period_of(kind: Kind, counts: u64) -> u64
+    ensures { Period (kind_number kind) counts result }
+{
+    match kind {
+        Kind::Relative => 0,
+        Kind::Periodic => counts,
+    }
+}
+
+// Sets what kernel timer `t` does, and queues it so many counts after a reading of the clock.
+fn set_after(s: &mut State, t: Index, kind: Kind, r: Index, reading: u64, counts: u64)
+    requires { SetAsks s.old.sizes s.old.bytes.now t r reading counts }
+    ensures same { Same s.old s.new }
+    ensures done { SetAfter s.old.sizes s.old.bytes.now s.new.bytes.now t (kind_number kind) r reading counts }
+{
+    clockwork::time::set_timer(s, t, period_of(kind, counts), r);
+    add_after(s, t, reading, counts);
+}
+
+// Adds kernel timer `t` to wake Rendez `r`.
+pub fn tadd(
+    s: &mut State,
+    t: Index,
+    kind: Kind,
+    d: Duration,
+    r: Index,
+    reading: u64,
+) -> Result<Reply, Refusal>
+    requires { TaddAsks s.old.sizes s.old.bytes.now t d r }
+    ensures same { Same s.old s.new }
+    ensures done { Tadded s.old.sizes s.old.bytes.now s.new.bytes.now t (kind_number kind) d r reading result }
+{
+    let counts = counts_of(&s.view(), kind, d, reading)?;
+    set_after(s, t, kind, r, reading, counts);
+    Ok(Reply::Done)
+}
+
+// The call of process `i`, which runs, returns at a reading of the clock: its own timer is off.
+fn return_at(s: &mut State, i: Index, reading: u64)
+    requires { UpAsks s.old.sizes s.old.bytes.now i }
+    ensures same { Same s.old s.new }
+    ensures done { Returned s.old.sizes s.old.bytes.now s.new.bytes.now i reading }
+{
+    let own = s.sizes.timers + i;
+    clockwork::time::set_now(s, reading);
+    timer::by_deadline::del(s, own);
 }
 
 // Process `i`, which runs, goes asleep on Rendez `r`, its own timer queued so many counts after a reading of the clock.
-fn sleep_until(s: &mut [u8], z: Sizes, i: Index, r: Index, c: u8, reading: u64, counts: u64)
-    requires { UntilAsks z s.old i r reading counts }
-    ensures { SleepsUntil z s.old s.new i r c reading counts }
+fn sleep_until(s: &mut State, i: Index, r: Index, c: u8, reading: u64, counts: u64)
+    requires { UntilAsks s.old.sizes s.old.bytes.now i r reading counts }
+    ensures same { Same s.old s.new }
+    ensures done { SleepsUntil s.old.sizes s.old.bytes.now s.new.bytes.now i r c reading counts }
 {
-    add_after(s, z, z.timers + i, reading, counts);
+    let own = s.sizes.timers + i;
+    add_after(s, own, reading, counts);
     proc_sleep::fall_asleep(
         s,
-        z,
         i,
         r,
         Resume::Tsleep {
@@ -181,62 +186,59 @@ fn sleep_until(s: &mut [u8], z: Sizes, i: Index, r: Index, c: u8, reading: u64, 
 }
 
 // Process `i`, which runs, returns where condition `c` holds, and else sleeps on Rendez `r` for so many counts at most.
-fn sleep_for(s: &mut [u8], z: Sizes, i: Index, r: Index, c: u8, reading: u64, counts: u64) -> Reply
-    requires { ForAsks z s.old i r reading counts }
-    ensures { SleptFor z s.old s.new i r c reading counts result }
+fn sleep_for(
+    s: &mut State,
+    i: Index,
+    r: Index,
+    c: u8,
+    reading: u64,
+    counts: u64,
+) -> Result<Reply, Refusal>
+    requires { ForAsks s.old.sizes s.old.bytes.now i r reading counts }
+    ensures same { Same s.old s.new }
+    ensures done { SleptFor s.old.sizes s.old.bytes.now s.new.bytes.now i r c reading counts result }
 {
-    let holds = clockwork::condition(s, z, c);
-    if holds {
-        return_at(s, z, i, reading);
-        return Reply::Done;
+    if clockwork::conditions::holds(&s.view(), c) {
+        return_at(s, i, reading);
+        return Ok(Reply::Done);
     }
-    let sleeper = state::get16(s, z, state::RENDEZ, state::SLEEPER_OF, r);
-    if sleeper != 0 {
-        return Reply::Refused { number: 5 };
+    if s.get(field::SLEEPER_OF, r).is_some() {
+        return Err(Refusal::RendezTaken);
     }
-    sleep_until(s, z, i, r, c, reading, counts);
-    Reply::Asleep
+    sleep_until(s, i, r, c, reading, counts);
+    Ok(Reply::Asleep)
 }
 
 // Process `i`, which runs, sleeps on Rendez `r` until condition `c` holds or the duration has passed.
 fn sleep_timed(
-    s: &mut [u8],
-    z: Sizes,
+    s: &mut State,
     i: Index,
     r: Index,
     c: u8,
     d: Duration,
     reading: u64,
-) -> Reply
-    requires { RunningAsks z s.old i r d }
-    ensures { Tslept z s.old s.new false r c d reading result }
+) -> Result<Reply, Refusal>
+    requires { RunningAsks s.old.sizes s.old.bytes.now i r d }
+    ensures same { Same s.old s.new }
+    ensures done { Tslept s.old.sizes s.old.bytes.now s.new.bytes.now false r c d reading result }
 {
-    let counted = counts_of(s, z, RELATIVE, d, reading);
-    match counted {
-        Counted::Meets { number } => Reply::Refused { number },
-        Counted::Counts { counts } => sleep_for(s, z, i, r, c, reading, counts),
-    }
+    let counts = counts_of(&s.view(), Kind::Relative, d, reading)?;
+    sleep_for(s, i, r, c, reading, counts)
 }
 
 // The running process sleeps on Rendez `r` until condition `c` holds or the duration has passed.
 pub fn tsleep(
-    s: &mut [u8],
-    z: Sizes,
+    s: &mut State,
     in_interrupt: bool,
     r: Index,
     c: u8,
     d: Duration,
     reading: u64,
-) -> Reply
-    requires { TsleepAsks z s.old r d }
-    ensures { Tslept z s.old s.new in_interrupt r c d reading result }
+) -> Result<Reply, Refusal>
+    requires { TsleepAsks s.old.sizes s.old.bytes.now r d }
+    ensures same { Same s.old s.new }
+    ensures done { Tslept s.old.sizes s.old.bytes.now s.new.bytes.now in_interrupt r c d reading result }
 {
-    if in_interrupt {
-        return Reply::Refused { number: 3 };
-    }
-    let up = state::get16(s, z, state::HEADER, state::UP, 0);
-    if up == 0 {
-        return Reply::Refused { number: 4 };
-    }
-    sleep_timed(s, z, up - 1, r, c, d, reading)
+    let i = outcome::lent::running(&s.view(), in_interrupt)?;
+    sleep_timed(s, i, r, c, d, reading)
 }

@@ -1,9 +1,8 @@
 -- The message of a cell, copied to the front of a buffer.
-use Rattle.std.specs.Prelude.{◌≡◌, refl, List, ◌++◌, ℕ, ◌+◌, ◌*◌, ◌≤◌, ◌<◌, length, get_or, set, take, drop}
-use Rattle.std.proofs.Common.{sym, ap, ◌∙◌, arith, add-one, lit<, length-set}
-use Rattle.std.proofs.Math.Seq.{take-length}
+use Rattle.std.specs.Prelude.{◌≡◌, refl, List, ◌++◌, ℕ, ◌+◌, ◌*◌, ◌≤◌, ◌<◌, length, get_or, take, drop, ◌-◌}
+use Rattle.std.proofs.Common.{sym, ap, ◌∙◌, arith, lit<, length-drop, length-take-le, get_or-take, get_or-drop}
+use Rattle.std.proofs.lemmas.List.{ext_get_or}
 use Rattle.memory.specs.Le.{le, le-one}
-use Rattle.message.specs.Cut.{copy_step}
 use Rattle.layout.specs.Table.{slot}
 use Rattle.layout.specs.Memory.{Reach, reach-end, cell_in_lem}
 use Rattle.state.specs.Fields as fields
@@ -34,15 +33,6 @@ pub record Copied (z : Sizes) (s : List ℕ) (c : ℕ) (b b' : List ℕ) (r : �
 abbrev pub bytes_from : List ℕ → ℕ → ℕ → List ℕ
 bytes_from s at n = table n (λ k. get_or s (at + k) 0)
 
--- As it goes: the first j of them are there.
-pub record Copying (s b₀ : List ℕ) (at n : ℕ) (b : List ℕ) (j : ℕ) : Type 0 where
-  pub within : j ≤ n
-  pub short : n ≤ 127
-  pub fits : at + 127 ≤ length s
-  pub room : 127 ≤ length b₀
-  pub size : length b ≡ length b₀
-  pub bytes : b ≡ take j (bytes_from s at n) ++ drop j b₀
-
 byte-reach : {z : Sizes} {s : List ℕ} {c : ℕ} {b : List ℕ} (j : ℕ) → CopyAsks z s c b → j < 127 → Reach fields.layout1 (fields.counts (sizes_in z)) s (slot 7 0 1) (127 * c + j)
 byte-reach j a l = record { inside = record { region = lit< tt; end = lit< tt }; index = omega (arith, a.index); long = a.long }
 
@@ -52,42 +42,16 @@ message_byte_lem z s c j i l =
     ∙ ap (λ (k : ℕ). le 1 s k) (omega arith)
     ∙ cell_in_lem fields.layout1 (fields.counts (sizes_in z)) s (slot 7 0 1) (127 * c + j) (omega (arith, i))
 
-pub copy_start
-    : {z : Sizes} {s : List ℕ} {c at n j : ℕ} {b : List ℕ}
-    → CopyAsks z s c b
-    → at ≡ start_in z 7 + c * 127
-    → n ≡ mem_in z s fields.message_length c
-    → j ≡ 0
-    → Copying s b at n b j
-copy_start {z} {s} {c} {at} {n} {j} {b} a e d q =
-    record {
-      within = omega arith;
-      short = omega (arith, d, a.short);
-      fits = omega (arith, e, reach-end (byte-reach {z = z} 126 a (lit< tt)));
-      room = a.room;
-      size = refl;
-      bytes = rw q;
-    }
+-- The copy reads inside the bytes, and writes inside the buffer.
+pub copy-fits : {z : Sizes} {s : List ℕ} {c at : ℕ} {b : List ℕ} → CopyAsks z s c b → at ≡ start_in z 7 + c * 127 → at + 127 ≤ length s
+copy-fits {z} a e = omega (arith, e, reach-end (byte-reach {z = z} 126 a (lit< tt)))
 
-pub copy_more
-    : {s : List ℕ} {at n j j' : ℕ} {b₀ b b' : List ℕ}
-    → Copying s b₀ at n b j
-    → j < n
-    → b' ≡ set b j (get_or s (at + j) 0)
-    → j' ≡ j + 1
-    → Copying s b₀ at n b' j'
-copy_more {s} {at} {n} {j} {j'} {b₀} {b} {b'} i l d q =
-    let byte : get_or s (at + j) 0 ≡ get_or (bytes_from s at n) j 0 = sym (table-get n (λ k. get_or s (at + k) 0) j 0 l) in
-    record {
-      within = omega arith;
-      short = i.short;
-      fits = i.fits;
-      room = i.room;
-      size = rw d (length-set b j (get_or s (at + j) 0) ∙ i.size);
-      bytes =
-          rw (q, add-one, d, byte, i.bytes)
-          (copy_step j (bytes_from s at n) b₀ (omega (arith, table-length n (λ k. get_or s (at + k) 0))) (omega (arith, i.room, i.short)));
-    }
+bytes-slice : (s : List ℕ) (at n : ℕ) → at + n ≤ length s → take n (drop at s) ≡ bytes_from s at n
+bytes-slice s at n h =
+    let d : length (drop at s) ≡ length s - at = length-drop at s in
+    let l : length (take n (drop at s)) ≡ n = length-take-le n (drop at s) (omega arith) in
+    ext_get_or 0 (take n (drop at s)) (bytes_from s at n) (l ∙ sym (table-length n (λ k. get_or s (at + k) 0)))
+    (λ i g. get_or-take n (drop at s) i 0 (omega (arith, l)) ∙ get_or-drop at s i 0 ∙ sym (table-get n (λ k. get_or s (at + k) 0) i 0 (omega (arith, l))))
 
 -- They are the message's.
 from_cell : (z : Sizes) (s : List ℕ) (c at n : ℕ) → c < z.cells → n ≤ 127 → at ≡ start_in z 7 + c * 127 → bytes_from s at n ≡ table n (λ j. mem_in z s fields.message_byte (127 * c + j))
@@ -95,26 +59,20 @@ from_cell z s c at n l h e =
     table_same n (λ j. mem_in z s fields.message_byte (127 * c + j)) (λ k. get_or s (at + k) 0)
     (λ k i. rw e (message_byte_lem z s c k l (omega arith)))
 
-pub copy-end
-    : {z : Sizes} {s : List ℕ} {c at n j : ℕ} {b₀ b : List ℕ}
-    → CopyAsks z s c b₀
+pub copied
+    : {z : Sizes} {s : List ℕ} {c at n : ℕ} {b : List ℕ}
+    → CopyAsks z s c b
     → at ≡ start_in z 7 + c * 127
     → n ≡ mem_in z s fields.message_length c
-    → Copying s b₀ at n b j
-    → n ≤ j
-    → Copied z s c b₀ b n
-copy-end {z} {s} {c} {at} {n} {j} {b₀} {b} a e d i l =
-    let xs : List ℕ = bytes_from s at n in
-    let len : length xs ≡ n = table-length n (λ k. get_or s (at + k) 0) in
-    let q : j ≡ length xs = omega (arith, i.within, len) in
+    → Copied z s c b (take (at + n - at) (drop at s) ++ drop n b) n
+copied {z} {s} {c} {at} {n} {b} a e d =
+    let h : n ≤ 127 = omega (arith, d, a.short) in
+    let x : at + n - at ≡ n = omega arith in
     record {
       answer = d;
       bytes =
-          i.bytes
-          ∙ ap (λ (k : ℕ). take k xs ++ drop k b₀) q
-          ∙ ap (λ (x : List ℕ). x ++ drop (length xs) b₀) (take-length xs)
-          ∙ ap (λ (k : ℕ). xs ++ drop k b₀) len
-          ∙ ap (λ (x : List ℕ). x ++ drop n b₀) (from_cell z s c at n a.index i.short e)
-          ∙ ap (λ (k : ℕ). table k (λ m. mem_in z s fields.message_byte (127 * c + m)) ++ drop k b₀) d;
-      within = i.short;
+          ap (λ (k : ℕ). take k (drop at s) ++ drop n b) x
+          ∙ ap (λ (y : List ℕ). y ++ drop n b) (bytes-slice s at n (omega (arith, copy-fits a e)) ∙ from_cell z s c at n a.index h e)
+          ∙ ap (λ (k : ℕ). table k (λ m. mem_in z s fields.message_byte (127 * c + m)) ++ drop k b) d;
+      within = h;
     }

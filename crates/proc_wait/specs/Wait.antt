@@ -1,10 +1,11 @@
 -- wait: what the code shows at each return.
-use Rattle.std.specs.Prelude.{if◌then◌else◌, ◌≡◌, Bool, true, ◌&&◌, List, [], ◌∷◌, ◌++◌, ℕ, suc, ◌+◌, ◌-◌, ◌*◌, ◌≤◌, ◌<◌, eqb, length, take, drop}
+use Rattle.std.specs.Prelude.{if◌then◌else◌, ◌≡◌, Bool, true, ◌&&◌, List, [], ◌∷◌, ◌++◌, ℕ, suc, ◌+◌, ◌-◌, ◌*◌, ◌≤◌, ◌<◌, eqb, length, take, drop, Option, Some, None, unwrap_or, Result, Ok, Err}
 use Rattle.std.proofs.Math.Path.{refl}
 use Rattle.std.proofs.Common.{sym, ap, ap₂, subst, ◌∙◌, arith, lit<}
 use Rattle.std.proofs.Math.Bool.{false}
 use Rattle.std.proofs.Math.Option.{some}
 use Rattle.std.proofs.Math.Seq.{take-length}
+use Rattle.memory.specs.Link.{link}
 use Rattle.machine.specs.Basics.{is_empty}
 use Rattle.machine.specs.Machine as machine
 use Rattle.machine.specs.Machine.{Machine, Process, Exit, process}
@@ -37,21 +38,23 @@ use Rattle.waitq.specs.Marks.{holds-cells, exits-number}
 use Rattle.waitq.specs.WaitCode.{WaitAsks, WaitIs}
 use Rattle.waitq.specs.Take.{TakeAsks, TakeDone, take_mem}
 use Rattle.outcome.specs.declared.Reply as code
-use Rattle.outcome.specs.declared.Reply.TheVariants.{Child, Asleep, Refused}
+use Rattle.outcome.specs.declared.Reply.TheVariants.{Child, Asleep}
+use Rattle.outcome.specs.declared.Refusal.{Refusal}
+use Rattle.outcome.specs.declared.Refusal.TheVariants as refused
 use Rattle.outcome.specs.Means.{means, told, status_of}
 use Rattle.outcome.specs.Stepped.{Well, Stepped, left_bytes}
 use Rattle.outcome.specs.Laws.{stepped-done, stepped-refused}
 use Rattle.outcome.specs.Refusals.{step}
 use Rattle.outcome.specs.RefusalsExit.{is_waiting as call_waits, refused-wait_3, refused-wait_4, refused-wait_14, refused-wait-15, allowed-wait}
 use Rattle.outcome.specs.Room.{well-room}
-use Rattle.proc_sleep.specs.Running.{nobody-up, somebody-up, link_up, current-is}
+use Rattle.outcome.specs.Running.{IsRunning, NotRunning, somebody-up, current-is, not-running}
 use Rattle.proc_wait.specs.declared.Gone.{Gone}
 use Rattle.outcome.specs.Length.{length_of}
 use Rattle.proc_wait.specs.Copy.{CopyAsks, Copied, message_in}
 use Rattle.proc_wait.specs.Sleep.{AloneAsks, WentAsleep}
 
 -- The message buffer then: the message told at its front, and behind it what stood there.
-pub record WaitTook (z : Sizes) (s s' : List ℕ) (k : Bool) (b b' : List ℕ) (r : code.Reply) : Type 0 where
+pub record WaitTook (z : Sizes) (s s' : List ℕ) (k : Bool) (b b' : List ℕ) (r : Result code.Reply Refusal) : Type 0 where
   pub message : List ℕ
   pub stepped : Stepped z s s' (step k wait) message r
   pub long : length_of r ≡ length message
@@ -67,34 +70,26 @@ pub record PwaitAsks (z : Sizes) (s : List ℕ) (i : ℕ) (b : List ℕ) : Type 
   pub room : 127 ≤ length b
   pub runs : mem_in z s fields.up 0 ≡ suc i
 
-pub wait-marked : {z : Sizes} {s b : List ℕ} {k : Bool} → WaitStepAsks z s b → k ≡ true → WaitTook z s s k b b (Refused 3)
-unfolding left_by left_bytes
-wait-marked {z} {s} {b} {k} a e =
-    record { message = []; stepped = stepped-refused (refused-wait_3 (machine_in z s) k e) a.well.holds refl refl; long = refl; buffer = refl }
-
-pub wait-nobody
-    : {z : Sizes} {s b : List ℕ} {k : Bool} {u : ℕ} → WaitStepAsks z s b → k ≡ false → u ≡ mem_in z s fields.up 0 → u ≡ 0 → WaitTook z s s k b b (Refused 4)
-unfolding left_by left_bytes
-wait-nobody {z} {s} {b} {k} {u} a f e d =
+pub wait-refused : {z : Sizes} {s b : List ℕ} {k : Bool} {e : Refusal} → WaitStepAsks z s b → NotRunning z s k e → WaitTook z s s k b b (Err e)
+wait-refused {z} {s} {b} {k} a n =
     record {
       message = [];
-      stepped = stepped-refused (refused-wait_4 (machine_in z s) k f (nobody-up z s u e d)) a.well.holds refl refl;
+      stepped = not-running a.well.holds (refused-wait_3 (machine_in z s) k) (refused-wait_4 (machine_in z s) k) n;
       long = refl;
       buffer = refl;
     }
 
-pub wait-pwait : {z : Sizes} {s b : List ℕ} {u : ℕ} → WaitStepAsks z s b → u ≡ mem_in z s fields.up 0 → (u ≡ 0 → ⊥) → PwaitAsks z s (u - 1) b
-wait-pwait {z} {s} {b} {u} a e ne = record { well = a.well; room = a.room; runs = link_up z s u e ne }
+pub wait-pwait : {z : Sizes} {s b : List ℕ} {k : Bool} {i : ℕ} → WaitStepAsks z s b → IsRunning z s k i → PwaitAsks z s i b
+wait-pwait a u = record { well = a.well; room = a.room; runs = u.runs }
 
-pub wait-rest : {z : Sizes} {s s₁ b b₁ : List ℕ} {k : Bool} {r : code.Reply} → k ≡ false → WaitTook z s s₁ false b b₁ r → WaitTook z s s₁ k b b₁ r
-wait-rest {z} {s} {s₁} {b} {b₁} {k} {r} e t = subst (λ (x : Bool). WaitTook z s s₁ x b b₁ r) (sym e) t
+pub wait-rest
+    : {z : Sizes} {s s₁ b b₁ : List ℕ} {k : Bool} {i : ℕ} {r : Result code.Reply Refusal} → IsRunning z s k i → WaitTook z s s₁ false b b₁ r → WaitTook z s s₁ k b b₁ r
+wait-rest {z} {s} {s₁} {b} {b₁} {k} {i} {r} u t = subst (λ (x : Bool). WaitTook z s s₁ x b b₁ r) (sym u.unmarked) t
 
 -- Who runs.
 module _ {z : Sizes} {s : List ℕ} {i : ℕ} {b : List ℕ} (a : PwaitAsks z s i b) where
   runner : (machine_in z s).up ≡ some i
-  runner =
-      let e : i ≡ suc i - 1 = omega arith in
-      subst (λ (j : ℕ). (machine_in z s).up ≡ some j) (sym e) (somebody-up z s (suc i) (sym a.runs) (λ d. omega (arith, d)))
+  runner = somebody-up z s a.runs
 
   used : Used (mem_in z s) i
   used = state-used a.well.holds.keeps.placed i (omega (arith, a.well.holds.keeps.placed.running i a.runs))
@@ -137,7 +132,7 @@ module _ {z : Sizes} {s : List ℕ} {i : ℕ} {b : List ℕ} {w : WaitState} (a 
   shown : (v : WaitState) → w ≡ v → Says v (is_waiting here.resume) (is_empty here.exits) (eqb here.nchild 0)
   shown v e = subst (λ (x : WaitState). Says x (is_waiting here.resume) (is_empty here.exits) (eqb here.nchild 0)) e (tests here w h.state)
 
-  pub pwait-in_use : w ≡ InUse → WaitTook z s s false b b (Refused 14)
+  pub pwait-in_use : w ≡ InUse → WaitTook z s s false b b (Err refused.InUse)
   unfolding left_by left_bytes
   pwait-in_use e =
       record {
@@ -148,7 +143,7 @@ module _ {z : Sizes} {s : List ℕ} {i : ℕ} {b : List ℕ} {w : WaitState} (a 
         buffer = refl;
       }
 
-  pub pwait-no_child : w ≡ NoChild → WaitTook z s s false b b (Refused 15)
+  pub pwait-no_child : w ≡ NoChild → WaitTook z s s false b b (Err refused.NoChild)
   unfolding left_by left_bytes
   pwait-no_child e =
       let f : (is_waiting here.resume ≡ false) × (is_empty here.exits ≡ true) × (eqb here.nchild 0 ≡ true) = shown NoChild e in
@@ -198,7 +193,7 @@ pub pwait-asleep
     → WaitIs z s i w
     → w ≡ Sleep
     → WentAsleep z s s₁ i
-    → WaitTook z s s₁ false b b Asleep
+    → WaitTook z s s₁ false b b (Ok Asleep)
 unfolding means told
 pwait-asleep {z} {s} {s₁} {i} {b} {w} a h e d =
     let p : Process = process (machine_in z s) i in
@@ -257,7 +252,7 @@ pub pwait-took
     → WaitIs z s i w
     → w ≡ Take
     → TookChild z s s₁ i b b₁ g
-    → WaitTook z s s₁ false b b₁ (Child g.pid g.length)
+    → WaitTook z s s₁ false b b₁ (Ok (Child g.pid g.length))
 unfolding means told status_of
 pwait-took {z} {s} {s₁} {i} {b} {b₁} {w} {g} a h e d =
     let p : Process = process (machine_in z s) i in
@@ -265,7 +260,7 @@ pwait-took {z} {s} {s₁} {i} {b} {b₁} {w} {g} a h e d =
     let q : ((perform wait (machine_in z s)).reply ≡ answer (Answer.child (newest p).pid (newest p).message)) × ((perform wait (machine_in z s)).after ≡ with_process i (take_exit p) (machine_in z s)) =
     wait_takes (machine_in z s) i (runner a) f.1
     in
-    let m : means (Child g.pid g.length) (newest p).message [] ≡ answer (Answer.child (newest p).pid (newest p).message) =
+    let m : means (Ok (Child g.pid g.length)) (newest p).message [] ≡ answer (Answer.child (newest p).pid (newest p).message) =
     ap₂ (λ (x y : ℕ). answer (Answer.child x (take y (newest p).message))) d.pid d.long
     ∙ ap (λ (x : List ℕ). answer (Answer.child (newest p).pid x)) (take-length (newest p).message)
     in
@@ -290,43 +285,56 @@ module _ {z : Sizes} {s : List ℕ} {i : ℕ} {b : List ℕ} (a : ChildAsks z s 
   pub child-some : 1 ≤ mem_in z s fields.exits i
   child-some = pop-some child-pop
 
-  pub child-cell : {l : ℕ} → l ≡ mem_in z s fields.exits i → ReachIn z s (slot 6 0 8) (l - 1)
-  child-cell e =
-      let c : CellThere z s _ = pop-cell child-pop e in
-      record { inside = record { region = lit< tt; end = lit< tt }; index = c.index; long = c.long }
+  -- the cell of the newest exit
+  pub child-is : (o : Option ℕ) {c : ℕ} → link o ≡ mem_in z s fields.exits i → c ≡ unwrap_or o 0 → c ≡ mem_in z s fields.exits i - 1
+  child-is o e d = d ∙ go o e
+    where
+      go : (o : Option ℕ) → link o ≡ mem_in z s fields.exits i → unwrap_or o 0 ≡ mem_in z s fields.exits i - 1
+      go None q = omega (arith, q)
+      go (Some k) q = omega (arith, q)
 
-  pub child-copy : {l : ℕ} → l ≡ mem_in z s fields.exits i → CopyAsks z s (l - 1) b
-  child-copy {l} e =
-      let c : CellThere z s (l - 1) = pop-cell child-pop e in
-      record { index = c.index; long = c.long; short = at_most (holds-bounds a.holds) fields.message_length (l - 1); room = a.room }
+  pub child-cell : {c : ℕ} → c ≡ mem_in z s fields.exits i - 1 → ReachIn z s (slot 6 0 8) c
+  child-cell e =
+      let k : CellThere z s (mem_in z s fields.exits i - 1) = pop-cell child-pop refl in
+      record { inside = record { region = lit< tt; end = lit< tt }; index = subst (λ (n : ℕ). n < z.cells) (sym e) k.index; long = k.long }
+
+  pub child-copy : {c : ℕ} → c ≡ mem_in z s fields.exits i - 1 → CopyAsks z s c b
+  child-copy {c} e =
+      let k : CellThere z s (mem_in z s fields.exits i - 1) = pop-cell child-pop refl in
+      record {
+        index = subst (λ (n : ℕ). n < z.cells) (sym e) k.index;
+        long = k.long;
+        short = at_most (holds-bounds a.holds) fields.message_length c;
+        room = a.room;
+      }
 
   pub child-take : TakeAsks z s i
   child-take = record { owed = 0; holds = a.holds; used = a.used; some = a.some }
 
 pub took-child
-    : {z : Sizes} {s s₁ : List ℕ} {i l p n r : ℕ} {b b₁ : List ℕ}
+    : {z : Sizes} {s s₁ : List ℕ} {i c p n r : ℕ} {b b₁ : List ℕ}
     → ChildAsks z s i b
-    → l ≡ mem_in z s fields.exits i
-    → p ≡ mem_in z s fields.exit_pid (l - 1)
-    → Copied z s (l - 1) b b₁ n
+    → c ≡ mem_in z s fields.exits i - 1
+    → p ≡ mem_in z s fields.exit_pid c
+    → Copied z s c b b₁ n
     → TakeDone z s s₁ i r
     → TookChild z s s₁ i b b₁ (record { pid = p; length = n })
 unfolding exit_at
-took-child {z} {s} {s₁} {i} {l} {p} {n} {r} {b} {b₁} a e d c t =
-    let q : r ≡ l = t.link ∙ sym e in
-    let x : newest (process (machine_in z s) i) ≡ exit_at (mem_in z s) (l - 1) = t.newest ∙ ap (λ (k : ℕ). exit_at (mem_in z s) (k - 1)) q in
-    let len : length (message_in z s (l - 1)) ≡ mem_in z s fields.message_length (l - 1) =
-    table-length (mem_in z s fields.message_length (l - 1)) (λ j. mem_in z s fields.message_byte (127 * (l - 1) + j))
+took-child {z} {s} {s₁} {i} {c} {p} {n} {r} {b} {b₁} a e d w t =
+    let q : r - 1 ≡ c = ap (λ (k : ℕ). k - 1) t.link ∙ sym e in
+    let x : newest (process (machine_in z s) i) ≡ exit_at (mem_in z s) c = t.newest ∙ ap (λ (k : ℕ). exit_at (mem_in z s) k) q in
+    let len : length (message_in z s c) ≡ mem_in z s fields.message_length c =
+    table-length (mem_in z s fields.message_length c) (λ j. mem_in z s fields.message_byte (127 * c + j))
     in
     record {
       holds = t.did.holds 0 a.holds;
       machine = t.did.machine;
       memory = t.did.memory ∙ ap (λ (k : ℕ). take_mem z.cells (mem_in z s) i (k - 1)) t.link;
       pid = d ∙ ap (λ (o : Exit). o.pid) (sym x);
-      long = c.answer ∙ sym len ∙ ap (λ (o : Exit). length o.message) (sym x);
+      long = w.answer ∙ sym len ∙ ap (λ (o : Exit). length o.message) (sym x);
       buffer =
-          c.bytes
-          ∙ ap (λ (k : ℕ). message_in z s (l - 1) ++ drop k b) (sym len)
+          w.bytes
+          ∙ ap (λ (k : ℕ). message_in z s c ++ drop k b) (sym len)
           ∙ ap (λ (o : Exit). o.message ++ drop (length o.message) b) (sym x);
       spares = spares-did t.did t.ceased;
       kin = t.fewer.kin;

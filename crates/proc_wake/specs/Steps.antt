@@ -1,5 +1,5 @@
 -- wakeup, canqlock, qunlock, cond and due: what the code shows at each return.
-use Rattle.std.specs.Prelude.{if◌then◌else◌, ◌≡◌, refl, Bool, true, false, not, List, [], ◌∷◌, ℕ, suc, ◌-◌, ◌≤◌, ◌<◌, eqb}
+use Rattle.std.specs.Prelude.{if◌then◌else◌, ◌≡◌, refl, Bool, true, false, not, List, [], ◌∷◌, ℕ, suc, ◌-◌, ◌≤◌, ◌<◌, eqb, Result, Ok, Err}
 use Rattle.std.proofs.Common.{sym, ap, subst, ◌∙◌, arith, lt-ltb, le-leb}
 use Rattle.std.proofs.Math.Option.{none, some}
 use Rattle.lists.specs.Lists.{bit}
@@ -24,15 +24,15 @@ use Rattle.holds.specs.Use.{same_use}
 use Rattle.holds.specs.Touched.{spares-none, touched-same, touched-did}
 use Rattle.dat.specs.Rendez.{WakeAsks, Woke, pids_of}
 use Rattle.qlock.specs.Queue.{LockAsks}
-use Rattle.qlock.specs.Hold.{Tried, HandAsks, Handed, Given}
-use Rattle.qlock.specs.declared.Unlock.{Unlock}
-use Rattle.qlock.specs.declared.Unlock.TheVariants.{NotHeld, Free, To}
+use Rattle.qlock.specs.Hold.{Tried, HandAsks, Handed, GivenUp}
 use Rattle.timer.specs.Only.{Owing}
 use Rattle.clockwork.specs.Stores.{Became}
 use Rattle.clockwork.specs.Preempt.{PreemptDue}
 use Rattle.clockwork.specs.Conditions.{condition_stores}
 use Rattle.outcome.specs.declared.Reply as code
-use Rattle.outcome.specs.declared.Reply.TheVariants.{Done, Yes, No, Refused}
+use Rattle.outcome.specs.declared.Reply.TheVariants.{Done, Yes, No}
+use Rattle.outcome.specs.declared.Refusal.{Refusal}
+use Rattle.outcome.specs.declared.Refusal.TheVariants.{NotLocked}
 use Rattle.outcome.specs.Means.{means, told}
 use Rattle.outcome.specs.Took.{Took}
 use Rattle.outcome.specs.Stepped.{Well, Stepped, left_bytes}
@@ -71,7 +71,7 @@ wakeup-after : (m : Machine) (r : ℕ) → (perform (wakeup r) m).after ≡ (wak
 unfolding open_perform open_outcome
 wakeup-after m r = refl
 
-pub wakeup-no : {z : Sizes} {s s₁ : List ℕ} {r l : ℕ} → RendezAsks z s r → Woke z s s₁ r l → l ≡ 0 → Took z s s₁ (wakeup r) No
+pub wakeup-no : {z : Sizes} {s s₁ : List ℕ} {r l : ℕ} → RendezAsks z s r → Woke z s s₁ r l → l ≡ 0 → Took z s s₁ (wakeup r) (Ok No)
 unfolding means told
 wakeup-no {z} {s} {s₁} {r} {l} a w e =
     let t : (perform (wakeup r) (machine_in z s)).reply ≡ answer (Answer.yes_no false) =
@@ -83,7 +83,7 @@ wakeup-no {z} {s} {s₁} {r} {l} a w e =
           (w.machine ∙ sym (wakeup-after (machine_in z s) r));
     }
 
-pub wakeup-yes : {z : Sizes} {s s₁ : List ℕ} {r l : ℕ} → RendezAsks z s r → Woke z s s₁ r l → (l ≡ 0 → ⊥) → Took z s s₁ (wakeup r) Yes
+pub wakeup-yes : {z : Sizes} {s s₁ : List ℕ} {r l : ℕ} → RendezAsks z s r → Woke z s s₁ r l → (l ≡ 0 → ⊥) → Took z s s₁ (wakeup r) (Ok Yes)
 unfolding means told
 wakeup-yes {z} {s} {s₁} {r} {l} a w ne =
     let e : l ≡ suc (l - 1) = omega arith in
@@ -122,7 +122,7 @@ canqlock-held : (m : Machine) (q : ℕ) → (lock m q).held ≡ true
 unfolding open_perform open_outcome
 canqlock-held m q e = (rw e, rw e)
 
-pub canqlock-yes : {z : Sizes} {s s₁ : List ℕ} {q : ℕ} {t : Bool} → LockAsked z s q → Tried z s s₁ q t → t ≡ true → Took z s s₁ (canqlock q) Yes
+pub canqlock-yes : {z : Sizes} {s s₁ : List ℕ} {q : ℕ} {t : Bool} → LockAsked z s q → Tried z s s₁ q t → t ≡ true → Took z s s₁ (canqlock q) (Ok Yes)
 unfolding means told
 canqlock-yes {z} {s} {s₁} {q} {t} a w e =
     let f : ((perform (canqlock q) (machine_in z s)).reply ≡ answer (Answer.yes_no true)) × ((perform (canqlock q) (machine_in z s)).after ≡ with_lock q (record { held = true; waiters = (lock (machine_in z s) q).waiters }) (machine_in z s)) =
@@ -134,7 +134,7 @@ canqlock-yes {z} {s} {s₁} {q} {t} a w e =
           ((w.yes e).machine ∙ sym f.1);
     }
 
-pub canqlock-no : {z : Sizes} {s s₁ : List ℕ} {q : ℕ} {t : Bool} → LockAsked z s q → Tried z s s₁ q t → t ≡ false → Took z s s₁ (canqlock q) No
+pub canqlock-no : {z : Sizes} {s s₁ : List ℕ} {q : ℕ} {t : Bool} → LockAsked z s q → Tried z s s₁ q t → t ≡ false → Took z s s₁ (canqlock q) (Ok No)
 unfolding means told
 canqlock-no {z} {s} {s₁} {q} {t} a w e =
     let f : ((perform (canqlock q) (machine_in z s)).reply ≡ answer (Answer.yes_no false)) × ((perform (canqlock q) (machine_in z s)).after ≡ machine_in z s) =
@@ -169,26 +169,20 @@ qunlock-number
 unfolding machine_of in_range held_lock
 qunlock-number {z} {s} {q} a k = refusal-qunlock (machine_in z s) k q ∙ rw (lt-ltb q z.locks a.index)
 
-pub qunlock-no : {z : Sizes} {s s₁ : List ℕ} {q : ℕ} {u : Unlock} → LockAsked z s q → Given z s s₁ q u → u ≡ NotHeld → Took z s s₁ (qunlock q) (Refused 6)
+pub qunlock-no : {z : Sizes} {s s₁ : List ℕ} {q l : ℕ} → LockAsked z s q → GivenUp z s s₁ q false l → Took z s s₁ (qunlock q) (Err NotLocked)
 unfolding left_by left_bytes
-qunlock-no {z} {s} {s₁} {q} a w e =
-    let g : Given z s s₁ q NotHeld = subst (Given z s s₁ q) e w in
-    let n : (k : Bool) → refusal (machine_in z s) (step k (qunlock q)) ≡ some 6 = λ k. qunlock-number a k ∙ rw (← g.answer) in
-    subst (λ (x : List ℕ). Took z s x (qunlock q) (Refused 6)) (sym (g.no refl))
+qunlock-no {z} {s} {s₁} {q} a w =
+    let n : (k : Bool) → refusal (machine_in z s) (step k (qunlock q)) ≡ some 6 = λ k. qunlock-number a k ∙ rw (← w.answer) in
+    subst (λ (x : List ℕ). Took z s x (qunlock q) (Err NotLocked)) (sym (w.no refl))
     (record { stepped = λ k. stepped-refused (n k) a.well.holds refl refl })
 
-handed : {z : Sizes} {s s₁ : List ℕ} {q l : ℕ} → LockAsked z s q → (lock (machine_in z s) q).held ≡ true → Handed z s s₁ q l → Took z s s₁ (qunlock q) Done
+handed : {z : Sizes} {s s₁ : List ℕ} {q l : ℕ} → LockAsked z s q → (lock (machine_in z s) q).held ≡ true → Handed z s s₁ q l → Took z s s₁ (qunlock q) (Ok Done)
 unfolding open_perform open_outcome means told
 handed {z} {s} {s₁} {q} a e h =
     record { stepped = λ k. stepped-done (qunlock-number a k ∙ rw e) (h.holds 0 a.well.holds) h.touched.spares refl refl h.machine }
 
-pub qunlock-free : {z : Sizes} {s s₁ : List ℕ} {q : ℕ} {u : Unlock} → LockAsked z s q → Given z s s₁ q u → u ≡ Free → Took z s s₁ (qunlock q) Done
-qunlock-free {z} {s} {s₁} {q} a w e =
-    let g : Given z s s₁ q Free = subst (Given z s s₁ q) e w in handed a (sym g.answer) (g.yes refl)
-
-pub qunlock-to : {z : Sizes} {s s₁ : List ℕ} {q i : ℕ} {u : Unlock} → LockAsked z s q → Given z s s₁ q u → u ≡ To i → Took z s s₁ (qunlock q) Done
-qunlock-to {z} {s} {s₁} {q} {i} a w e =
-    let g : Given z s s₁ q (To i) = subst (Given z s s₁ q) e w in handed a (sym g.answer) (g.yes refl)
+pub qunlock-done : {z : Sizes} {s s₁ : List ℕ} {q l : ℕ} → LockAsked z s q → GivenUp z s s₁ q true l → Took z s s₁ (qunlock q) (Ok Done)
+qunlock-done a w = handed a (sym w.answer) (w.yes refl)
 
 -- cond
 pub well-owing : {z : Sizes} {s : List ℕ} → Well z s → Owing z s
@@ -206,7 +200,7 @@ cond-allowed : (m : Machine) (c : ℕ) (v : Bool) → c < 256 → (k : Bool) →
 unfolding in_range
 cond-allowed m c v l k = refusal-cond m k c (bit v) ∙ rw (lt-ltb c 256 l, le-leb (bit v) 1 (bit-low v))
 
-pub record CondTook (z : Sizes) (s s' : List ℕ) (c : ℕ) (v : Bool) (r : code.Reply) : Type 0 where
+pub record CondTook (z : Sizes) (s s' : List ℕ) (c : ℕ) (v : Bool) (r : Result code.Reply Refusal) : Type 0 where
   pub stepped : (k : Bool) → Stepped z s s' (step k (cond c (bit v))) [] r
 
 pub cond-done
@@ -214,7 +208,7 @@ pub cond-done
     → Well z s
     → c < 256
     → Became z s s₁ (condition_stores c v) (with_condition c v (machine_in z s))
-    → CondTook z s s₁ c v Done
+    → CondTook z s s₁ c v (Ok Done)
 unfolding open_perform open_outcome means told
 cond-done {z} {s} {s₁} {c} {v} w l b =
     record {
@@ -228,7 +222,7 @@ due-reply : (m : Machine) (t : Bool) → t ≡ preempt_due m → ((perform due m
 unfolding open_perform open_outcome
 due-reply m t e = (ap {B = Reply} (λ (x : Bool). answer (Answer.yes_no x)) (sym e), refl)
 
-pub due-yes : {z : Sizes} {s : List ℕ} {t : Bool} → Well z s → PreemptDue z s t → t ≡ true → Took z s s due Yes
+pub due-yes : {z : Sizes} {s : List ℕ} {t : Bool} → Well z s → PreemptDue z s t → t ≡ true → Took z s s due (Ok Yes)
 unfolding means told
 due-yes {z} {s} {t} w d e =
     let f : ((perform due (machine_in z s)).reply ≡ answer (Answer.yes_no true)) × ((perform due (machine_in z s)).after ≡ machine_in z s) =
@@ -236,7 +230,7 @@ due-yes {z} {s} {t} w d e =
     in
     record { stepped = λ k. stepped-done (refusal-due (machine_in z s) k) w.holds spares-none (sym f.0) (ap told (sym f.0)) (sym f.1) }
 
-pub due-no : {z : Sizes} {s : List ℕ} {t : Bool} → Well z s → PreemptDue z s t → t ≡ false → Took z s s due No
+pub due-no : {z : Sizes} {s : List ℕ} {t : Bool} → Well z s → PreemptDue z s t → t ≡ false → Took z s s due (Ok No)
 unfolding means told
 due-no {z} {s} {t} w d e =
     let f : ((perform due (machine_in z s)).reply ≡ answer (Answer.yes_no false)) × ((perform due (machine_in z s)).after ≡ machine_in z s) =

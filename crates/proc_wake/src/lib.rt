@@ -1,69 +1,71 @@
 // The steps that leave who runs as it is and need nobody to run: wakeup, canqlock, qunlock, cond, due.
 #![tactic(auto)]
 
+ghost use Rattle.std.specs.Prelude.{Ok};
 ghost use Rattle.machine.specs.Step.{wakeup, canqlock, qunlock, due};
+ghost use Rattle.state.specs.Lent.{Same};
 ghost use Rattle.outcome.specs.Stepped.{Well};
 ghost use Rattle.outcome.specs.Took.{Took};
 ghost use Rattle.proc_wake.specs.Steps.{RendezAsks, LockAsked, CondTook};
 
-use outcome::Reply;
-use qlock::Unlock;
-use state::{Index, Sizes};
+use outcome::{Refusal, Reply};
+use state::{Index, State, View};
 
 // Wakes the process asleep on Rendez `r`.
-pub fn wakeup(s: &mut [u8], z: Sizes, r: Index) -> Reply
-    requires { RendezAsks z s.old r }
-    ensures { Took z s.old s.new (wakeup r) result }
+pub fn wakeup(s: &mut State, r: Index) -> Reply
+    requires { RendezAsks s.old.sizes s.old.bytes.now r }
+    ensures same { Same s.old s.new }
+    ensures done { Took s.old.sizes s.old.bytes.now s.new.bytes.now (wakeup r) (Ok result) }
 {
-    let link = dat::wakeup(s, z, r);
-    if link == 0 {
-        return Reply::No;
+    match dat::lent::wakeup(s, r) {
+        None => Reply::No,
+        Some(_) => Reply::Yes,
     }
-    Reply::Yes
 }
 
 // Takes lock `q` only if it is free.
-pub fn canqlock(s: &mut [u8], z: Sizes, q: Index) -> Reply
-    requires { LockAsked z s.old q }
-    ensures { Took z s.old s.new (canqlock q) result }
+pub fn canqlock(s: &mut State, q: Index) -> Reply
+    requires { LockAsked s.old.sizes s.old.bytes.now q }
+    ensures same { Same s.old s.new }
+    ensures done { Took s.old.sizes s.old.bytes.now s.new.bytes.now (canqlock q) (Ok result) }
 {
-    let taken = qlock::canqlock(s, z, q);
-    if taken {
-        return Reply::Yes;
+    if qlock::lent::canqlock(s, q) {
+        Reply::Yes
+    } else {
+        Reply::No
     }
-    Reply::No
 }
 
 // Gives lock `q` up, to the first who waits for it; one that is not held is refused.
-pub fn qunlock(s: &mut [u8], z: Sizes, q: Index) -> Reply
-    requires { LockAsked z s.old q }
-    ensures { Took z s.old s.new (qunlock q) result }
+pub fn qunlock(s: &mut State, q: Index) -> Result<Reply, Refusal>
+    requires { LockAsked s.old.sizes s.old.bytes.now q }
+    ensures same { Same s.old s.new }
+    ensures done { Took s.old.sizes s.old.bytes.now s.new.bytes.now (qunlock q) result }
 {
-    let unlock = qlock::give_up(s, z, q);
-    match unlock {
-        Unlock::NotHeld => Reply::Refused { number: 6 },
-        Unlock::Free => Reply::Done,
-        Unlock::To { process: _ } => Reply::Done,
+    match qlock::lent::give_up(s, q) {
+        None => Err(Refusal::NotLocked),
+        Some(_) => Ok(Reply::Done),
     }
 }
 
 // Condition `c` becomes true or false.
-pub fn cond(s: &mut [u8], z: Sizes, c: u8, v: bool) -> Reply
-    requires { Well z s.old }
-    ensures { CondTook z s.old s.new c v result }
+pub fn cond(s: &mut State, c: u8, v: bool) -> Reply
+    requires { Well s.old.sizes s.old.bytes.now }
+    ensures same { Same s.old s.new }
+    ensures done { CondTook s.old.sizes s.old.bytes.now s.new.bytes.now c v (Ok result) }
 {
-    clockwork::set_condition(s, z, c, v);
+    clockwork::conditions::set(s, c, v);
     Reply::Done
 }
 
 // Has the running process used its quantum while another is ready?
-pub fn due(s: &[u8], z: Sizes) -> Reply
-    requires { Well z s.now }
-    ensures { Took z s.now s.now due result }
+pub fn due(v: &View) -> Reply
+    requires { Well v.now.sizes v.now.bytes.now }
+    ensures { Took v.now.sizes v.now.bytes.now v.now.bytes.now due (Ok result) }
 {
-    let due = clockwork::preempt_due(s, z);
-    if due {
-        return Reply::Yes;
+    if clockwork::quantum::preempt_due(v) {
+        Reply::Yes
+    } else {
+        Reply::No
     }
-    Reply::No
 }

@@ -1,5 +1,5 @@
 -- A lock held, handed over or freed: what `canqlock`, `qunlock` and `give_up` ask and ensure.
-use Rattle.std.specs.Prelude.{◌≡◌, refl, Bool, true, false, not, List, [], ◌∷◌, ◌++◌, ℕ, suc, ◌-◌, ◌≤◌, ◌<◌}
+use Rattle.std.specs.Prelude.{◌≡◌, refl, Option, Some, None, Bool, true, false, not, List, [], ◌∷◌, ◌++◌, ℕ, suc, ◌≤◌, ◌<◌}
 use Rattle.std.proofs.Common.{sym, ap, subst, ◌∙◌, arith, ne_eqb}
 use Rattle.machine.specs.Machine.{Machine, Lock, lock, pid_of}
 use Rattle.machine.specs.Update.{with_lock}
@@ -23,6 +23,7 @@ use Rattle.places.specs.Lock.{held_mem, held-machine, held-placed, dequeue_mem}
 use Rattle.dat.specs.Asleep.{AwakenAsks, Awakened, awaken_mem, awaken_stores}
 use Rattle.dat.specs.Rendez.{pids_of}
 use Rattle.qlock.specs.Queue.{LockAsks, Dequeued, DequeuedOne, dequeue_stores}
+use Rattle.memory.specs.Link.{link}
 use Rattle.qlock.specs.declared.Unlock.{Unlock}
 use Rattle.qlock.specs.declared.Unlock.TheVariants.{NotHeld, Free, To}
 
@@ -142,17 +143,20 @@ handed-none {z} {s} {s₁} {s₂} {q} {l} a d e p =
       touched = touched-did y (same_use refl refl refl refl refl refl refl refl refl);
     }
 
-pub hand_awaken : {z : Sizes} {s s₁ : List ℕ} {q l : ℕ} → HandAsks z s q → Dequeued z s s₁ q l → (l ≡ 0 → ⊥) → AwakenAsks z s₁ (l - 1)
-hand_awaken {z} {s} {s₁} {q} {l} a d ne =
-    let o : DequeuedOne z s s₁ q (l - 1) = d.somebody ne in
+-- the first is taken off
+first-off : {z : Sizes} {s s₁ : List ℕ} {q i : ℕ} → Dequeued z s s₁ q (suc i) → DequeuedOne z s s₁ q i
+first-off {z} {s} {s₁} {q} {i} d = subst (DequeuedOne z s s₁ q) (omega arith) (d.somebody (λ e. absurd (omega (arith, e))))
+
+pub hand_awaken : {z : Sizes} {s s₁ : List ℕ} {q i : ℕ} → HandAsks z s q → Dequeued z s s₁ q (suc i) → AwakenAsks z s₁ i
+hand_awaken {z} {s} {s₁} {q} {i} a d =
+    let o : DequeuedOne z s s₁ q i = first-off d in
     record { owed = a.owed; holds = o.did.holds a.owed a.holds; nowhere = o.nowhere }
 
 -- the first is handed the lock
-pub handed-one : {z : Sizes} {s s₁ s₂ : List ℕ} {q l : ℕ} → HandAsks z s q → Dequeued z s s₁ q l → (l ≡ 0 → ⊥) → Awakened z s₁ s₂ (l - 1) → Handed z s s₂ q l
-handed-one {z} {s} {s₁} {s₂} {q} {l} a d ne w =
-    let i : ℕ = l - 1 in
+pub handed-one : {z : Sizes} {s s₁ s₂ : List ℕ} {q i : ℕ} → HandAsks z s q → Dequeued z s s₁ q (suc i) → Awakened z s₁ s₂ i → Handed z s s₂ q (suc i)
+handed-one {z} {s} {s₁} {s₂} {q} {i} a d w =
     let m : Memory = mem_in z s in
-    let o : DequeuedOne z s s₁ q i = d.somebody ne in
+    let o : DequeuedOne z s s₁ q i = first-off d in
     let k : LockAsks z s q = hand_lock a in
     let h : ((hand_over q (machine_in z s)).machine ≡ ready i (with_lock q (record { held = true; waiters = o.rest }) (machine_in z s))) × ((hand_over q (machine_in z s)).readied ≡ pid_of (machine_in z s) i ∷ []) =
     hand_some (machine_in z s) q i o.rest (waiters_are k ∙ o.split)
@@ -164,16 +168,15 @@ handed-one {z} {s} {s₁} {s₂} {q} {l} a d ne w =
     (ap (λ (x : Memory). awaken_mem x i) o.did.memory)
     (ap (ready i) (o.did.machine ∙ ap (λ (x : Bool). with_lock q (record { held = x; waiters = o.rest }) (machine_in z s)) t) ∙ sym h.0)
     in
-    let e : l ≡ suc i = omega arith in
     record {
-      nobody = λ x. absurd (ne x);
+      nobody = λ x. absurd (omega (arith, x));
       somebody = λ j x.
           subst
           (λ (n : ℕ). Did z s s₂ same same (dequeue_stores m q n ++ awaken_stores (dequeue_mem m q n) n) (awaken_mem (dequeue_mem m q n) n) (hand_over q (machine_in z s)).machine)
           (omega (arith, x)) y;
       holds = y.holds;
       machine = y.machine;
-      readied = ap (pids_of m) e ∙ ap (λ (x : ℕ). x ∷ []) (sym (pid_of_lem (holds-bounds a.holds) i)) ∙ sym h.1;
+      readied = ap (λ (x : ℕ). x ∷ []) (sym (pid_of_lem (holds-bounds a.holds) i)) ∙ sym h.1;
       range = d.range;
       touched = touched-did y (same_use refl refl refl refl refl refl refl refl refl);
     }
@@ -181,7 +184,20 @@ handed-one {z} {s} {s₁} {s₂} {q} {l} a d ne w =
     none-some : {x : ℕ} {xs : List ℕ} → x ∷ xs ≡ [] → ⊥
     none-some e = let d : ◌≡◌ {A = ℕ} 0 1 = cc in omega arith
 
--- What `give_up` answers: not held, and nothing changed; or what `qunlock` does.
+-- What `give_up` answers: that the lock was not held, and nothing changed; or what `qunlock` does.
+pub record GivenUp (z : Sizes) (s s' : List ℕ) (q : ℕ) (held : Bool) (l : ℕ) : Type 0 where
+  pub answer : held ≡ (lock (machine_in z s) q).held
+  pub no : held ≡ false → s' ≡ s
+  pub yes : held ≡ true → Handed z s s' q l
+
+abbrev pub was_held : Option (Option ℕ) → Bool
+was_held None = false
+was_held (Some l) = true
+
+abbrev pub link_given : Option (Option ℕ) → ℕ
+link_given None = 0
+link_given (Some l) = link l
+
 abbrev pub link_of : Unlock → ℕ
 link_of NotHeld = 0
 link_of Free = 0
@@ -192,23 +208,12 @@ WasHeld NotHeld = false
 WasHeld Free = true
 WasHeld (To i) = true
 
-pub record Given (z : Sizes) (s s' : List ℕ) (q : ℕ) (u : Unlock) : Type 0 where
-  pub answer : WasHeld u ≡ (lock (machine_in z s) q).held
-  pub no : WasHeld u ≡ false → s' ≡ s
-  pub yes : WasHeld u ≡ true → Handed z s s' q (link_of u)
+abbrev pub Given : Sizes → List ℕ → List ℕ → ℕ → Unlock → Type 0
+Given z s s' q u = GivenUp z s s' q (WasHeld u) (link_of u)
 
-pub given-no : {z : Sizes} {s : List ℕ} {q v : ℕ} → HandAsks z s q → v ≡ mem_in z s fields.held q → v ≡ 0 → Given z s s q NotHeld
+pub given-no : {z : Sizes} {s : List ℕ} {q v : ℕ} → HandAsks z s q → v ≡ mem_in z s fields.held q → v ≡ 0 → GivenUp z s s q false 0
 given-no {z} {s} {q} a e d =
     record { answer = sym (held_unset (hand_lock a) e d); no = λ _. refl; yes = λ x. absurd (not-both refl (sym x)) }
 
-was-held : {z : Sizes} {s : List ℕ} {q v : ℕ} → HandAsks z s q → v ≡ mem_in z s fields.held q → (v ≡ 0 → ⊥) → true ≡ (lock (machine_in z s) q).held
-was-held a e ne = sym (held-set (hand_lock a) e ne)
-
-pub given-free : {z : Sizes} {s s₁ : List ℕ} {q v l : ℕ} → HandAsks z s q → v ≡ mem_in z s fields.held q → (v ≡ 0 → ⊥) → Handed z s s₁ q l → l ≡ 0 → Given z s s₁ q Free
-given-free {z} {s} {s₁} {q} a e ne h d =
-    record { answer = was-held a e ne; no = λ x. absurd (not-both refl x); yes = λ _. subst (Handed z s s₁ q) d h }
-
-pub given_to : {z : Sizes} {s s₁ : List ℕ} {q v l : ℕ} → HandAsks z s q → v ≡ mem_in z s fields.held q → (v ≡ 0 → ⊥) → Handed z s s₁ q l → (l ≡ 0 → ⊥) → Given z s s₁ q (To (l - 1))
-given_to {z} {s} {s₁} {q} {v} {l} a e ne h d =
-    let x : l ≡ suc (l - 1) = omega arith in
-    record { answer = was-held a e ne; no = λ y. absurd (not-both refl y); yes = λ _. subst (Handed z s s₁ q) x h }
+pub given-up : {z : Sizes} {s s₁ : List ℕ} {q v l : ℕ} → HandAsks z s q → v ≡ mem_in z s fields.held q → (v ≡ 0 → ⊥) → Handed z s s₁ q l → GivenUp z s s₁ q true l
+given-up a e ne h = record { answer = sym (held-set (hand_lock a) e ne); no = λ x. absurd (not-both refl x); yes = λ _. h }

@@ -13,15 +13,15 @@ use Rattle.state.specs.Places.{sizes_in, mem_in, total_in, PutIn, Wrote, wrote_j
 use Rattle.state.specs.declared.Sizes.{Sizes}
 use Rattle.exact.specs.Bounds.{InBounds, inside, at_most}
 use Rattle.exact.specs.Parts.{lock_of}
-use Rattle.queue.specs.declared.RunQueue.{RunQueue}
-use Rattle.queue.specs.declared.Popped.{Popped}
+use Rattle.queue.specs.Ends.{Ends, Popped}
+use Rattle.queue.specs.Held.{Held, HeldStored}
 use Rattle.queue.specs.List.{Linked, linked-waiters, list-waiters, empty-list}
 use Rattle.queue.specs.Push.{push_writes, push-writable, PushAsks, PushDone}
 use Rattle.queue.specs.Pop.{pop_writes, pop_head, PopAsks, PopDone}
 use Rattle.holds.specs.Holds.{Holds}
 use Rattle.holds.specs.Whole.{holds-bounds}
 use Rattle.holds.specs.Use.{used_by, EachInUse, before, in_use-runs, same_use}
-use Rattle.holds.specs.Did.{Did, did, did_join, did_as, machine_in, same, more, WritableIn, writes_in, wrote_1, wrote_2, writable_join}
+use Rattle.holds.specs.Did.{Did, did, did_join, did_as, machine_in, same, more, WritableIn, writes_in, wrote_1, writable_join}
 use Rattle.places.specs.Nowhere.{Nowhere}
 use Rattle.places.specs.Others.{others, keeps_with}
 use Rattle.places.specs.Machines.{lock_with}
@@ -36,21 +36,21 @@ pub record LockLong (z : Sizes) (s : List ℕ) (q : ℕ) : Type 0 where
   pub long : total_in z ≤ length s
 
 -- Its waiters as the lock holds them.
-pub record LockLoaded (z : Sizes) (s : List ℕ) (q : ℕ) (r : RunQueue) : Type 0 where
+pub record LockLoaded (z : Sizes) (s : List ℕ) (q : ℕ) (r : Ends) : Type 0 where
   pub head : r.head ≡ mem_in z s fields.lock_head q
   pub tail : r.tail ≡ mem_in z s fields.lock_tail q
 
-abbrev pub lock_stores : ℕ → RunQueue → List Write
+abbrev pub lock_stores : ℕ → Ends → List Write
 lock_stores q r = to fields.lock_head q r.head ∷ to fields.lock_tail q r.tail ∷ []
 
-pub lock-stored
-    : {z : Sizes} {s s₁ s₂ : List ℕ} {q h t : ℕ}
-    → PutIn z s s₁ (slot 4 2 2) q h
-    → PutIn z s₁ s₂ (slot 4 4 2) q t
-    → Wrote z s s₂ (to fields.lock_head q h ∷ to fields.lock_tail q t ∷ [])
-lock-stored p₁ p₂ = wrote_2 p₁ p₂
+-- What `queue::Fields` loads and stores at the lock's fields.
+pub lock-loaded : {z : Sizes} {s : List ℕ} {q : ℕ} {r : Ends} → Held z s (slot 4 2 2) (slot 4 4 2) q r → LockLoaded z s q r
+lock-loaded h = record { head = h.head; tail = h.tail }
 
-linked : {z : Sizes} {s : List ℕ} {n : ℕ} (q : ℕ) {r : RunQueue} → Holds z s n → LockLoaded z s q r → Linked z (mem_in z s) r
+pub lock-stored : {z : Sizes} {s s' : List ℕ} {q : ℕ} {r : Ends} → HeldStored z s s' (slot 4 2 2) (slot 4 4 2) q r → Wrote z s s' (lock_stores q r)
+lock-stored h = record { bytes = h.bytes; long = h.long }
+
+linked : {z : Sizes} {s : List ℕ} {n : ℕ} (q : ℕ) {r : Ends} → Holds z s n → LockLoaded z s q r → Linked z (mem_in z s) r
 linked {z} {s} {n} q {r} h l = linked-waiters z (mem_in z s) r q l.head l.tail (h.keeps.placed.locks q)
 
 -- i, whose call is a `qlock` of q, is queued there last.
@@ -112,7 +112,7 @@ counted {z} {s} {s₁} {q} {i} a o =
     }
 
 pub enqueue-push
-    : {z : Sizes} {s s₁ : List ℕ} {q i : ℕ} {r : RunQueue}
+    : {z : Sizes} {s s₁ : List ℕ} {q i : ℕ} {r : Ends}
     → EnqueueAsks z s q i
     → More z s s₁
     → LockLoaded z s₁ q r
@@ -141,7 +141,7 @@ last-updates m q (suc t) i e =
 
 -- What the code of `enqueue` shows.
 pub enqueued
-    : {z : Sizes} {s s₁ s₂ s₃ s₄ : List ℕ} {q i : ℕ} {r t : RunQueue}
+    : {z : Sizes} {s s₁ s₂ s₃ s₄ : List ℕ} {q i : ℕ} {r t : Ends}
     → EnqueueAsks z s q i
     → More z s s₁
     → LockLoaded z s₁ q r
@@ -162,9 +162,9 @@ enqueued {z} {s} {s₁} {s₂} {s₃} {s₄} {q} {i} {r} {t} a o l d w p =
     (wrote_join z (lock_stores q t) (to fields.state_of i 3 ∷ []) w (wrote_1 p))
     in
     let h : t.head ≡ push_first (m fields.lock_head q) (m fields.lock_tail q) i =
-    ap (λ (x : RunQueue). x.head) d.queue ∙ ap₂ (λ (x y : ℕ). push_first x y i) l.head l.tail
+    ap (λ (x : Ends). x.head) d.queue ∙ ap₂ (λ (x y : ℕ). push_first x y i) l.head l.tail
     in
-    let u : t.tail ≡ suc i = ap (λ (x : RunQueue). x.tail) d.queue in
+    let u : t.tail ≡ suc i = ap (λ (x : Ends). x.tail) d.queue in
     let ok : WritableIn z (last_stores m q i) =
     writable_join z (push_writes (m fields.lock_tail q) i)
     (to fields.lock_head q (push_first (m fields.lock_head q) (m fields.lock_tail q) i) ∷ to fields.lock_tail q (suc i) ∷ to fields.state_of i 3 ∷ [])
@@ -225,13 +225,13 @@ pub record Dequeued (z : Sizes) (s s' : List ℕ) (q l : ℕ) : Type 0 where
 pub dequeue-long : {z : Sizes} {s : List ℕ} {q : ℕ} → LockAsks z s q → LockLong z s q
 dequeue-long a = record { index = a.index; long = a.holds.state.long }
 
-pub dequeue-pop : {z : Sizes} {s : List ℕ} {q : ℕ} {r : RunQueue} → LockAsks z s q → LockLoaded z s q r → PopAsks z s r
+pub dequeue-pop : {z : Sizes} {s : List ℕ} {q : ℕ} {r : Ends} → LockAsks z s q → LockLoaded z s q r → PopAsks z s r
 dequeue-pop {q = q} a l = record { sizes = a.holds.sizes; state = a.holds.state; linked = linked q a.holds l }
 
-pub dequeue-store : {z : Sizes} {s s₁ : List ℕ} {q : ℕ} {r : RunQueue} {t : Popped} → LockAsks z s q → PopDone z s s₁ r t → LockLong z s₁ q
+pub dequeue-store : {z : Sizes} {s s₁ : List ℕ} {q : ℕ} {r : Ends} {t : Popped} → LockAsks z s q → PopDone z s s₁ r t → LockLong z s₁ q
 dequeue-store a d = record { index = a.index; long = d.state.long }
 
-pub dequeued_none : {z : Sizes} {s s₁ : List ℕ} {q : ℕ} {r : RunQueue} {t : Popped} → LockAsks z s q → LockLoaded z s q r → PopDone z s s₁ r t → t.link ≡ 0 → Dequeued z s s₁ q 0
+pub dequeued_none : {z : Sizes} {s s₁ : List ℕ} {q : ℕ} {r : Ends} {t : Popped} → LockAsks z s q → LockLoaded z s q r → PopDone z s s₁ r t → t.link ≡ 0 → Dequeued z s s₁ q 0
 dequeued_none {z} {s} {s₁} {q} {r} {t} a l d e =
     record {
       nobody = λ _. (
@@ -244,7 +244,7 @@ dequeued_none {z} {s} {s₁} {q} {r} {t} a l d e =
     }
 
 pub dequeued_one
-    : {z : Sizes} {s s₁ s₂ : List ℕ} {q : ℕ} {r : RunQueue} {t : Popped}
+    : {z : Sizes} {s s₁ s₂ : List ℕ} {q : ℕ} {r : Ends} {t : Popped}
     → LockAsks z s q
     → LockLoaded z s q r
     → PopDone z s s₁ r t
@@ -275,10 +275,10 @@ dequeued_one {z} {s} {s₁} {s₂} {q} {r} {t} a l d ne w =
         first = record { bytes = d.bytes ∙ ap (λ (h : ℕ). writes_in z s (pop_writes h)) head; long = d.state.long }
 
         new_head : t.queue.head ≡ m fields.next i
-        new_head = ap (λ (x : RunQueue). x.head) d.queue ∙ ap (λ (h : ℕ). pop_head m h) head
+        new_head = ap (λ (x : Ends). x.head) d.queue ∙ ap (λ (h : ℕ). pop_head m h) head
 
         new_tail : t.queue.tail ≡ pop_last (m fields.next i) (m fields.lock_tail q)
-        new_tail = ap (λ (x : RunQueue). x.tail) d.queue ∙ ap₂ (λ (h y : ℕ). pop_last (pop_head m h) y) head l.tail
+        new_tail = ap (λ (x : Ends). x.tail) d.queue ∙ ap₂ (λ (h y : ℕ). pop_last (pop_head m h) y) head l.tail
 
         all : Wrote z s s₂ (to fields.next i 0 ∷ lock_stores q t.queue)
         all = wrote_join z (to fields.next i 0 ∷ []) (lock_stores q t.queue) first w

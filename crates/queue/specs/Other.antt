@@ -8,8 +8,7 @@ use Rattle.chain.specs.Links.{Queue, chain-frame, chain-walk, chain_head, final,
 use Rattle.state.specs.Fields as fields
 use Rattle.state.specs.Places.{mem_in}
 use Rattle.state.specs.declared.Sizes.{Sizes}
-use Rattle.queue.specs.declared.RunQueue.{RunQueue}
-use Rattle.queue.specs.declared.Popped.{Popped}
+use Rattle.queue.specs.Ends.{Ends, Popped}
 use Rattle.queue.specs.List.{list_of, Linked}
 use Rattle.queue.specs.Push.{PushAsks, PushDone}
 use Rattle.queue.specs.Pop.{PopAsks, PopDone}
@@ -57,12 +56,12 @@ after-pop zero b q = q
 after-pop (suc u) b q = queue-alter u 0 (b u refl) q
 
 -- The queue o holds in m' the list that it holds in m, and its links are sound there.
-pub record Kept (z : Sizes) (m m' : Memory) (o : RunQueue) : Type 0 where
+pub record Kept (z : Sizes) (m m' : Memory) (o : Ends) : Type 0 where
   pub linked : Linked z m' o
   pub list : list_of z m' o ≡ list_of z m o
 
 kept
-    : (z : Sizes) (m m' : Memory) (o : RunQueue)
+    : (z : Sizes) (m m' : Memory) (o : Ends)
     → Queue z.processes (m' fields.next) o.head o.tail (list_of z m o)
     → Kept z m m' o
 kept z m m' o c =
@@ -70,10 +69,10 @@ kept z m m' o c =
     record { linked = record { queue = rw w c }; list = w }
 
 pub push-other
-    : {z : Sizes} {s s' : List ℕ} {q r : RunQueue} {i : ℕ}
+    : {z : Sizes} {s s' : List ℕ} {q r : Ends} {i : ℕ}
     → PushAsks z s q i
     → PushDone z s s' q i r
-    → (o : RunQueue)
+    → (o : Ends)
     → Linked z (mem_in z s) o
     → Absent i (list_of z (mem_in z s) o)
     → Apart (list_of z (mem_in z s) q) (list_of z (mem_in z s) o)
@@ -89,10 +88,10 @@ push-other {z} {s} {s'} {q} {r} {i} a d o l b e =
     (after_push q.tail i u b l.queue))
 
 pub pop-other
-    : {z : Sizes} {s s' : List ℕ} {q : RunQueue} {r : Popped}
+    : {z : Sizes} {s s' : List ℕ} {q : Ends} {r : Popped}
     → PopAsks z s q
     → PopDone z s s' q r
-    → (o : RunQueue)
+    → (o : Ends)
     → Linked z (mem_in z s) o
     → Apart (list_of z (mem_in z s) q) (list_of z (mem_in z s) o)
     → Kept z (mem_in z s) (mem_in z s') o

@@ -1,6 +1,7 @@
 -- What `pop` does: to the bytes, to the memory, and to the list.
-use Rattle.std.specs.Prelude.{◌≡◌, refl, List, [], ◌∷◌, ℕ, zero, suc, ◌-◌, ◌≤◌}
+use Rattle.std.specs.Prelude.{◌≡◌, refl, Option, Some, None, List, [], ◌∷◌, ℕ, zero, suc, ◌≤◌}
 use Rattle.std.proofs.Common.{sym, ap, subst, subst₂, ◌∙◌, arith}
+use Rattle.std.specs.Option.{option_and}
 use Rattle.machine.specs.Good.{SizesInRange}
 use Rattle.layout.specs.Table.{slot}
 use Rattle.layout.specs.Memory.{Memory, upd, set_field, set_same}
@@ -10,8 +11,9 @@ use Rattle.state.specs.Fields as fields
 use Rattle.state.proofs.Ranges.{ranges}
 use Rattle.state.specs.Places.{sizes_in, mem_in, cell_in, ReachIn, PutIn}
 use Rattle.state.specs.declared.Sizes.{Sizes}
+use Rattle.memory.specs.Link.{link}
 use Rattle.queue.specs.declared.RunQueue.{RunQueue}
-use Rattle.queue.specs.declared.Popped.{Popped}
+use Rattle.queue.specs.Ends.{Ends, ends, Popped, popped, taken}
 use Rattle.queue.specs.List.{StateIn, writes_in, next_in, list_of, Linked, linked-head, linked-tail}
 
 -- The stores that take off the process of the link h.
@@ -26,22 +28,18 @@ abbrev pub pop_head : Memory → ℕ → ℕ
 pop_head m zero = 0
 pop_head m (suc i) = m fields.next i
 
-abbrev pub pop_queue : Memory → RunQueue → RunQueue
+abbrev pub pop_queue : Memory → Ends → Ends
 pop_queue m q = record { head = pop_head m q.head; tail = pop_last (pop_head m q.head) q.tail; asleep = q.asleep }
 
--- A link and a queue as one answer.
-abbrev pub popped : ℕ → RunQueue → Popped
-popped l q = record { link = l; queue = q }
-
 -- The state is in range, and the queue's links are sound.
-pub record PopAsks (z : Sizes) (s : List ℕ) (q : RunQueue) : Type 0 where
+pub record PopAsks (z : Sizes) (s : List ℕ) (q : Ends) : Type 0 where
   pub sizes : SizesInRange (sizes_in z)
   pub state : StateIn z s
   pub linked : Linked z (mem_in z s) q
 
 -- The state is in range after; the bytes, the queue, the link and the memory; the link names the first of the list, the queue holds the
 -- rest, and its links are sound; and the ranges.
-pub record PopDone (z : Sizes) (s s' : List ℕ) (q : RunQueue) (r : Popped) : Type 0 where
+pub record PopDone (z : Sizes) (s s' : List ℕ) (q : Ends) (r : Popped) : Type 0 where
   pub state : StateIn z s'
   pub bytes : s' ≡ writes_in z s (pop_writes q.head)
   pub queue : r.queue ≡ pop_queue (mem_in z s) q
@@ -57,7 +55,7 @@ pub record PopDone (z : Sizes) (s s' : List ℕ) (q : RunQueue) (r : Popped) : T
 
 -- By the list that the queue holds.
 pop-list
-    : {z : Sizes} {s : List ℕ} {q : RunQueue}
+    : {z : Sizes} {s : List ℕ} {q : Ends}
     → PopAsks z s q
     → (xs : List ℕ)
     → list_of z (mem_in z s) q ≡ xs
@@ -112,71 +110,54 @@ pop-list {z} {s} {q} a (i ∷ ys) e c =
     }
 
 pub pop-done
-    : {z : Sizes} {s : List ℕ} {q : RunQueue}
+    : {z : Sizes} {s : List ℕ} {q : Ends}
     → PopAsks z s q
     → PopDone z s (writes_in z s (pop_writes q.head)) q (popped q.head (pop_queue (mem_in z s) q))
 pop-done {z} {s} {q} a = pop-list a (list_of z (mem_in z s) q) refl a.linked.queue
 
 pop_by
-    : {z : Sizes} {s s' : List ℕ} {q : RunQueue} {r : Popped}
+    : {z : Sizes} {s s' : List ℕ} {q : Ends} {r : Popped}
     → PopAsks z s q
     → s' ≡ writes_in z s (pop_writes q.head)
     → r ≡ popped q.head (pop_queue (mem_in z s) q)
     → PopDone z s s' q r
 pop_by {z} {s} {s'} {q} {r} a b f = subst₂ (λ (t : List ℕ) (p : Popped). PopDone z s t q p) (sym b) (sym f) (pop-done a)
 
--- In the code's terms: a head that is not 0, and a next that is not 0.
-pop-some
-    : (z : Sizes) (s : List ℕ) (h : ℕ)
-    → (h ≡ 0 → ⊥)
-    → (pop_writes h ≡ to fields.next (h - 1) 0 ∷ []) × (pop_head (mem_in z s) h ≡ mem_in z s fields.next (h - 1))
-pop-some z s zero ne = absurd (ne refl)
-pop-some z s (suc i) ne = let d : suc i - 1 ≡ i = omega arith in (rw d, rw d)
-
-pop_last-some : (n t : ℕ) → (n ≡ 0 → ⊥) → pop_last n t ≡ t
-pop_last-some zero t ne = absurd (ne refl)
-pop_last-some (suc n) t ne = refl
-
 -- What the read and the store ask.
-pub pop-reach : {z : Sizes} {s : List ℕ} {q : RunQueue} → PopAsks z s q → (q.head ≡ 0 → ⊥) → ReachIn z s (slot 1 24 2) (q.head - 1)
-pop-reach a ne =
+pub pop-reach : {z : Sizes} {s : List ℕ} (q : RunQueue) {i : ℕ} → PopAsks z s (ends q) → q.head ≡ Some i → ReachIn z s (slot 1 24 2) i
+pop-reach {z} {s} q {i} a e =
+    let low : link (Some i) ≤ z.processes = rw e at (linked-head a.linked) in
     record {
       inside = record { region = omega arith; end = omega arith };
-      index = omega (arith, linked-head a.linked);
+      index = low;
       long = a.state.long;
     }
 
 -- What the code shows at each return.
-pub popped-none : {z : Sizes} {s : List ℕ} {q : RunQueue} → PopAsks z s q → q.head ≡ 0 → PopDone z s s q (record { link = 0; queue = q })
-popped-none {z} {s} {q} a e =
-    let t : q.tail ≡ 0 = (queue-none a.linked.queue e).1 in
-    let p : q ≡ record { head = 0; tail = 0; asleep = q.asleep } = λ j. record { head = e j; tail = t j; asleep = q.asleep } in
-    pop_by a (rw e) (ap (popped 0) p ∙ rw e)
+pub popped-none
+    : {z : Sizes} {s : List ℕ} (q : RunQueue) {r : Option (ℕ × RunQueue)}
+    → PopAsks z s (ends q)
+    → q.head ≡ None
+    → r ≡ None
+    → PopDone z s s (ends q) (taken q r)
+popped-none {z} {s} q {r} a e d =
+    let h : (ends q).head ≡ 0 = rw e in
+    let t : (ends q).tail ≡ 0 = (queue-none a.linked.queue h).1 in
+    let p : ends q ≡ record { head = 0; tail = 0; asleep = q.asleep } = λ j. record { head = h j; tail = t j; asleep = q.asleep } in
+    rw d (pop_by a (rw h) (ap (popped 0) p ∙ rw h))
 
-pub popped-last
-    : {z : Sizes} {s s' : List ℕ} {q : RunQueue} {n : ℕ}
-    → PopAsks z s q
-    → (q.head ≡ 0 → ⊥)
-    → n ≡ cell_in z s (slot 1 24 2) (q.head - 1)
-    → PutIn z s s' (slot 1 24 2) (q.head - 1) 0
-    → n ≡ 0
-    → PopDone z s s' q (record { link = q.head; queue = record { head = 0; tail = 0; asleep = q.asleep } })
-popped-last {z} {s} {s'} {q} {n} a ne g p e =
-    let w : (pop_writes q.head ≡ to fields.next (q.head - 1) 0 ∷ []) × (pop_head (mem_in z s) q.head ≡ mem_in z s fields.next (q.head - 1)) =
-    pop-some z s q.head ne
-    in
-    pop_by a (rw w.0 p.bytes) (rw (w.1, ← g, e))
+-- The tail stays where there is a next.
+tail-and : (n t : Option ℕ) → link (option_and n t) ≡ pop_last (link n) (link t)
+tail-and None t = refl
+tail-and (Some i) t = refl
 
-pub popped-more
-    : {z : Sizes} {s s' : List ℕ} {q : RunQueue} {n : ℕ}
-    → PopAsks z s q
-    → (q.head ≡ 0 → ⊥)
-    → n ≡ cell_in z s (slot 1 24 2) (q.head - 1)
-    → PutIn z s s' (slot 1 24 2) (q.head - 1) 0
-    → (n ≡ 0 → ⊥)
-    → PopDone z s s' q (record { link = q.head; queue = record { head = n; tail = q.tail; asleep = q.asleep } })
-popped-more {z} {s} {s'} {q} {n} a ne g p e =
-    let w : (pop_writes q.head ≡ to fields.next (q.head - 1) 0 ∷ []) × (pop_head (mem_in z s) q.head ≡ mem_in z s fields.next (q.head - 1)) =
-    pop-some z s q.head ne
-    in
-    pop_by a (rw w.0 p.bytes) (rw (w.1, ← g, pop_last-some n q.tail e))
+pub popped-some
+    : {z : Sizes} {s s' : List ℕ} (q : RunQueue) {i : ℕ} (n : Option ℕ) {t : Option ℕ}
+    → PopAsks z s (ends q)
+    → q.head ≡ Some i
+    → link n ≡ cell_in z s (slot 1 24 2) i
+    → PutIn z s s' (slot 1 24 2) i 0
+    → t ≡ option_and n q.tail
+    → PopDone z s s' (ends q) (popped (suc i) (ends (record { head = n; tail = t; asleep = q.asleep })))
+popped-some {z} {s} {s'} q {i} n {t} a e g p d =
+    pop_by a (rw e p.bytes) (rw (d, tail-and n q.tail, g, e))

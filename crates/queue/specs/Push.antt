@@ -1,6 +1,6 @@
 -- What `push` does: to the bytes, to the memory, and to the list.
-use Rattle.std.specs.Prelude.{◌≡◌, refl, List, [], ◌∷◌, ◌++◌, ℕ, zero, suc, ◌+◌, ◌-◌, ◌≤◌, ◌<◌}
-use Rattle.std.proofs.Common.{sym, ap, subst, subst₂, ◌∙◌, arith, add-one}
+use Rattle.std.specs.Prelude.{◌≡◌, refl, Some, None, List, [], ◌∷◌, ◌++◌, ℕ, zero, suc, ◌≤◌, ◌<◌}
+use Rattle.std.proofs.Common.{sym, ap, subst, subst₂, ◌∙◌, arith}
 use Rattle.machine.specs.Good.{SizesInRange}
 use Rattle.layout.specs.Table.{slot}
 use Rattle.layout.specs.Memory.{Memory, alter, set_field, set_twice}
@@ -11,7 +11,11 @@ use Rattle.state.specs.Fields as fields
 use Rattle.state.proofs.Ranges.{ranges}
 use Rattle.state.specs.Places.{sizes_in, mem_in, ReachIn, PutIn, wrote-more}
 use Rattle.state.specs.declared.Sizes.{Sizes}
+use Rattle.state.specs.declared.lent.State.{State as Lent}
+use Rattle.state.specs.Lent.{Same}
+use Rattle.memory.specs.Link.{link}
 use Rattle.queue.specs.declared.RunQueue.{RunQueue}
+use Rattle.queue.specs.Ends.{Ends, ends}
 use Rattle.queue.specs.List.{StateIn, writes_in, next_in, list_of, Linked, linked-tail, linked-head}
 
 -- The stores that put i behind the tail t.
@@ -22,11 +26,11 @@ push_writes (suc t) i = to fields.next i 0 ∷ to fields.next t (suc i) ∷ []
 abbrev pub push_mem : Memory → ℕ → ℕ → Memory
 push_mem m t i = set_field m fields.next (push_links (m fields.next) t i)
 
-abbrev pub push_queue : RunQueue → ℕ → RunQueue
+abbrev pub push_queue : Ends → ℕ → Ends
 push_queue q i = record { head = push_first q.head q.tail i; tail = suc i; asleep = q.asleep }
 
 -- The state is in range, the queue's links are sound, and i is a record that is not in it.
-pub record PushAsks (z : Sizes) (s : List ℕ) (q : RunQueue) (i : ℕ) : Type 0 where
+pub record PushAsks (z : Sizes) (s : List ℕ) (q : Ends) (i : ℕ) : Type 0 where
   pub sizes : SizesInRange (sizes_in z)
   pub state : StateIn z s
   pub linked : Linked z (mem_in z s) q
@@ -34,7 +38,7 @@ pub record PushAsks (z : Sizes) (s : List ℕ) (q : RunQueue) (i : ℕ) : Type 0
   pub absent : Absent i (list_of z (mem_in z s) q)
 
 -- The state is in range after; the bytes, the queue and the memory; i is last in the list, and the links are sound; and the ranges.
-pub record PushDone (z : Sizes) (s s' : List ℕ) (q : RunQueue) (i : ℕ) (r : RunQueue) : Type 0 where
+pub record PushDone (z : Sizes) (s s' : List ℕ) (q : Ends) (i : ℕ) (r : Ends) : Type 0 where
   pub state : StateIn z s'
   pub bytes : s' ≡ writes_in z s (push_writes q.tail i)
   pub queue : r ≡ push_queue q i
@@ -60,7 +64,7 @@ push-memory z s (suc t) i r a l h =
     written (ranges (sizes_in z) r) a (push_writes (suc t) i) (push-writable z (suc t) i l h)
     ∙ set_twice (mem_in z s) fields.next (alter (mem_in z s fields.next) i 0) (alter (alter (mem_in z s fields.next) i 0) t (suc i))
 
-pub push-done : {z : Sizes} {s : List ℕ} {q : RunQueue} {i : ℕ} → PushAsks z s q i → PushDone z s (writes_in z s (push_writes q.tail i)) q i (push_queue q i)
+pub push-done : {z : Sizes} {s : List ℕ} {q : Ends} {i : ℕ} → PushAsks z s q i → PushDone z s (writes_in z s (push_writes q.tail i)) q i (push_queue q i)
 push-done {z} {s} {q} {i} a =
     let m : Memory = mem_in z s in
     let s' : List ℕ = writes_in z s (push_writes q.tail i) in
@@ -86,51 +90,46 @@ push-done {z} {s} {q} {i} a =
     }
 
 push_by
-    : {z : Sizes} {s s' : List ℕ} {q r : RunQueue} {i : ℕ}
+    : {z : Sizes} {s s' : List ℕ} {q r : Ends} {i : ℕ}
     → PushAsks z s q i
     → s' ≡ writes_in z s (push_writes q.tail i)
     → r ≡ push_queue q i
     → PushDone z s s' q i r
-push_by {z} {s} {s'} {q} {r} {i} a b f = subst₂ (λ (t : List ℕ) (p : RunQueue). PushDone z s t q i p) (sym b) (sym f) (push-done a)
-
--- In the code's terms: a tail that is not 0.
-push-some : (t i : ℕ) → (t ≡ 0 → ⊥) → push_writes t i ≡ to fields.next i 0 ∷ to fields.next (t - 1) (i + 1) ∷ []
-push-some zero i ne = absurd (ne refl)
-push-some (suc t) i ne = let d : suc t - 1 ≡ t = omega arith in rw (d, add-one)
-
-push_first_lem : (h t i : ℕ) → (t ≡ 0 → ⊥) → push_first h t i ≡ h
-push_first_lem h zero i ne = absurd (ne refl)
-push_first_lem h (suc t) i ne = refl
+push_by {z} {s} {s'} {q} {r} {i} a b f = subst₂ (λ (t : List ℕ) (p : Ends). PushDone z s t q i p) (sym b) (sym f) (push-done a)
 
 -- What the second store asks.
 pub push-reach
-    : {z : Sizes} {s s₁ : List ℕ} {q : RunQueue} {i v : ℕ}
-    → PushAsks z s q i
-    → (q.tail ≡ 0 → ⊥)
-    → PutIn z s s₁ (slot 1 24 2) i v
-    → ReachIn z s₁ (slot 1 24 2) (q.tail - 1)
-push-reach a ne p =
-    record {
+    : {s t : Lent} (q : RunQueue) {i l v : ℕ}
+    → PushAsks s.sizes s.bytes.now (ends q) i
+    → q.tail ≡ Some l
+    → Same s t
+    → PutIn s.sizes s.bytes.now t.bytes.now (slot 1 24 2) i v
+    → ReachIn t.sizes t.bytes.now (slot 1 24 2) l
+push-reach {s} {t} q {i} {l} {v} a e k p =
+    let low : link (Some l) ≤ s.sizes.processes = rw e at (linked-tail a.linked) in
+    rw k.sizes
+    (record {
       inside = record { region = omega arith; end = omega arith };
-      index = omega (arith, linked-tail a.linked);
+      index = low;
       long = p.long;
-    }
+    })
 
 -- What the code shows at each return.
 pub pushed_none
-    : {z : Sizes} {s s' : List ℕ} {q : RunQueue} {i : ℕ}
-    → PushAsks z s q i
-    → q.tail ≡ 0
+    : {z : Sizes} {s s' : List ℕ} (q : RunQueue) {i : ℕ}
+    → PushAsks z s (ends q) i
+    → q.tail ≡ None
     → PutIn z s s' (slot 1 24 2) i 0
-    → PushDone z s s' q i (record { head = i + 1; tail = i + 1; asleep = q.asleep })
-pushed_none {z} {s} {s'} {q} {i} a e p = push_by a (rw e p.bytes) (rw (e, add-one))
+    → PushDone z s s' (ends q) i (ends (record { head = Some i; tail = Some i; asleep = q.asleep }))
+pushed_none {z} {s} {s'} q {i} a e p = push_by a (rw e p.bytes) (rw e)
 
 pub pushed-some
-    : {z : Sizes} {s s₁ s' : List ℕ} {q : RunQueue} {i : ℕ}
-    → PushAsks z s q i
-    → (q.tail ≡ 0 → ⊥)
-    → PutIn z s s₁ (slot 1 24 2) i 0
-    → PutIn z s₁ s' (slot 1 24 2) (q.tail - 1) (i + 1)
-    → PushDone z s s' q i (record { head = q.head; tail = i + 1; asleep = q.asleep })
-pushed-some {z} {s} {s₁} {s'} {q} {i} a ne p₁ p₂ =
-    push_by a (rw (push-some q.tail i ne) (wrote-more z _ p₁.bytes p₂)) (rw (push_first_lem q.head q.tail i ne, add-one))
+    : {s t : Lent} (u : Lent) (q : RunQueue) {i l : ℕ}
+    → PushAsks s.sizes s.bytes.now (ends q) i
+    → q.tail ≡ Some l
+    → Same s t
+    → PutIn s.sizes s.bytes.now t.bytes.now (slot 1 24 2) i 0
+    → PutIn t.sizes t.bytes.now u.bytes.now (slot 1 24 2) l (suc i)
+    → PushDone s.sizes s.bytes.now u.bytes.now (ends q) i (ends (record { head = q.head; tail = Some i; asleep = q.asleep }))
+pushed-some {s} {t} u q {i} {l} a e k p₁ p₂ =
+    push_by a (rw e (wrote-more s.sizes _ p₁.bytes (rw k.sizes at p₂))) (rw e)

@@ -1,110 +1,123 @@
 // Queues of processes, first in first out, linked through the field `next` of their records: the run queue, and the waiters of each lock.
 #![tactic(auto)]
 
+ghost use Rattle.state.specs.Lent.{Same};
+ghost use Rattle.state.specs.Regions.{slot_of};
+ghost use Rattle.memory.specs.Link.{link, IsLink};
+ghost use Rattle.queue.specs.Ends.{ends, popped, taken};
+ghost use Rattle.queue.specs.Held.{HeldAsks, Held, HeldStored};
 ghost use Rattle.queue.specs.List.{IsEmpty};
 ghost use Rattle.queue.specs.Push.{PushAsks, PushDone};
-ghost use Rattle.queue.specs.Pop.{PopAsks, PopDone, popped};
+ghost use Rattle.queue.specs.Pop.{PopAsks, PopDone};
 
-use state::{Count, Index, Sizes};
+use state::field::{self, Field};
+use state::{Count, Index, Link, State};
 
-// `head` and `tail` are links: 0 for none, and i + 1 for record i. `asleep` counts the sleepers; the functions here leave it as it is. For the
-// waiters of a lock, `head` and `tail` are the lock's, and `asleep` is not used.
-#[derive(Clone, Copy)]
+// `asleep` counts the sleepers; the functions here leave it as it is. For the waiters of a lock, `head` and `tail` are the lock's.
+#[derive(Clone, Copy, Debug, PartialEq, Eq)]
 pub struct RunQueue {
-    pub head: Index,
-    pub tail: Index,
+    pub head: Link,
+    pub tail: Link,
     pub asleep: Count,
 }
 
-// What `pop` gives: the link to the process taken off, 0 for none, and the queue after.
+// The fields that hold the first and the last of a queue.
 #[derive(Clone, Copy)]
-pub struct Popped {
-    pub link: Index,
-    pub queue: RunQueue,
+pub struct Fields {
+    pub head: Field<Link>,
+    pub tail: Field<Link>,
+}
+
+impl Fields {
+    // The queue as the fields of record `i` hold it.
+    pub fn load(self, s: &State, i: Index) -> RunQueue
+        requires { HeldAsks s.now.sizes s.now.bytes.now (slot_of self.head 2) (slot_of self.tail 2) i }
+        ensures { Held s.now.sizes s.now.bytes.now (slot_of self.head 2) (slot_of self.tail 2) i (ends result) }
+    {
+        RunQueue {
+            head: s.get(self.head, i),
+            tail: s.get(self.tail, i),
+            asleep: s.get(field::ASLEEP_COUNT, 0),
+        }
+    }
+
+    // Stores the first and the last of the queue in the fields of record `i`.
+    pub fn store(self, s: &mut State, i: Index, q: RunQueue)
+        requires reach { HeldAsks s.old.sizes s.old.bytes.now (slot_of self.head 2) (slot_of self.tail 2) i }
+        requires head { IsLink q.head }
+        requires tail { IsLink q.tail }
+        ensures same { Same s.old s.new }
+        ensures stored { HeldStored s.old.sizes s.old.bytes.now s.new.bytes.now (slot_of self.head 2) (slot_of self.tail 2) i (ends q) }
+    {
+        s.set(self.head, i, q.head);
+        s.set(self.tail, i, q.tail);
+    }
 }
 
 // Is nobody in the queue?
 pub fn is_empty(q: RunQueue) -> bool
-    ensures { IsEmpty result q }
+    ensures { IsEmpty result (ends q) }
 {
-    let head = q.head;
-    if head == 0 {
-        return true;
-    }
-    false
+    q.head.is_none()
 }
 
 // The queue with process `i` last.
-pub fn push(s: &mut [u8], z: Sizes, q: RunQueue, i: Index) -> RunQueue
-    requires { PushAsks z s.old q i }
-    ensures { PushDone z s.old s.new q i result }
+fn with_last(q: RunQueue, s: &mut State, i: Index) -> RunQueue
+    requires { PushAsks s.old.sizes s.old.bytes.now (ends q) i }
+    ensures same { Same s.old s.new }
+    ensures done { PushDone s.old.sizes s.old.bytes.now s.new.bytes.now (ends q) i (ends result) }
 {
-    let tail = q.tail;
-    state::set16(s, z, state::PROCESS, state::NEXT, i, 0);
-    if tail == 0 {
+    s.set(field::NEXT, i, None);
+    let Some(last) = q.tail else {
         return RunQueue {
-            head: i + 1,
-            tail: i + 1,
+            head: Some(i),
+            tail: Some(i),
             asleep: q.asleep,
         };
-    }
-    state::set16(s, z, state::PROCESS, state::NEXT, tail - 1, i + 1);
+    };
+    s.set(field::NEXT, last, Some(i));
     RunQueue {
         head: q.head,
-        tail: i + 1,
+        tail: Some(i),
         asleep: q.asleep,
     }
 }
 
-// The queue without its first process.
-pub fn pop(s: &mut [u8], z: Sizes, q: RunQueue) -> Popped
-    requires { PopAsks z s.old q }
-    ensures { PopDone z s.old s.new q result }
+// The first process of the queue, and the queue without it: none where nobody is in it.
+fn without_first(q: RunQueue, s: &mut State) -> Option<(Index, RunQueue)>
+    requires { PopAsks s.old.sizes s.old.bytes.now (ends q) }
+    ensures same { Same s.old s.new }
+    ensures done { PopDone s.old.sizes s.old.bytes.now s.new.bytes.now (ends q) (taken q result) }
 {
-    let head = q.head;
-    if head == 0 {
-        return Popped { link: 0, queue: q };
-    }
-    let next = state::get16(s, z, state::PROCESS, state::NEXT, head - 1);
-    state::set16(s, z, state::PROCESS, state::NEXT, head - 1, 0);
-    if next == 0 {
-        return Popped {
-            link: head,
-            queue: RunQueue {
-                head: 0,
-                tail: 0,
-                asleep: q.asleep,
-            },
-        };
-    }
-    Popped {
-        link: head,
-        queue: RunQueue {
+    let first = q.head?;
+    let next = s.get(field::NEXT, first);
+    s.set(field::NEXT, first, None);
+    Some((
+        first,
+        RunQueue {
             head: next,
-            tail: q.tail,
+            tail: next.and(q.tail),
             asleep: q.asleep,
         },
-    }
+    ))
 }
 
-// `push` on a queue that is lent.
-pub fn push_lent(q: &mut RunQueue, s: &mut [u8], z: Sizes, i: Index)
-    requires { PushAsks z s.old q.old i }
-    ensures { PushDone z s.old s.new q.old i q.new }
+// Puts process `i` last.
+pub fn push(q: &mut RunQueue, s: &mut State, i: Index)
+    requires { PushAsks s.old.sizes s.old.bytes.now (ends q.old) i }
+    ensures same { Same s.old s.new }
+    ensures done { PushDone s.old.sizes s.old.bytes.now s.new.bytes.now (ends q.old) i (ends q.new) }
 {
-    let old = *q;
-    let new = push(s, z, old, i);
-    *q = new;
+    *q = with_last(*q, s, i);
 }
 
-// `pop` on a queue that is lent: the link to the process taken off, 0 for none.
-pub fn pop_lent(q: &mut RunQueue, s: &mut [u8], z: Sizes) -> Index
-    requires { PopAsks z s.old q.old }
-    ensures { PopDone z s.old s.new q.old (popped result q.new) }
+// Takes the first process off: none where nobody is in the queue.
+pub fn pop(q: &mut RunQueue, s: &mut State) -> Option<Index>
+    requires { PopAsks s.old.sizes s.old.bytes.now (ends q.old) }
+    ensures same { Same s.old s.new }
+    ensures done { PopDone s.old.sizes s.old.bytes.now s.new.bytes.now (ends q.old) (popped (link result) (ends q.new)) }
 {
-    let old = *q;
-    let t = pop(s, z, old);
-    let rest = t.queue;
+    let (first, rest) = without_first(*q, s)?;
     *q = rest;
-    t.link
+    Some(first)
 }

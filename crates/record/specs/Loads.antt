@@ -1,8 +1,8 @@
 -- Loading and storing a whole record.
-use Rattle.std.specs.Prelude.{◌≡◌, refl, List, ℕ, ◌+◌, ◌*◌, ◌≤◌, ◌<◌, Bool, true, false, eqb, length, get_or, set}
-use Rattle.std.proofs.Common.{sym, ap, ◌∙◌, arith, eqb-true, lit<, length-set, get_or-set_same, get_or-set_other, ext_get_or}
+use Rattle.std.specs.Prelude.{◌≡◌, List, ℕ, ◌+◌, ◌-◌, ◌*◌, ◌≤◌, ◌<◌, length, get_or, take, drop}
+use Rattle.std.proofs.Common.{sym, ap, ◌∙◌, arith, lit<, length-take-le, length-drop, ext_get_or}
+use Rattle.std.proofs.lemmas.List.{get_or-take, get_or-drop}
 use Rattle.std.proofs.Math.Path.{subst₃}
-use Rattle.std.proofs.lemmas.Bool.{eqb-false}
 use Rattle.memory.specs.Le.{le, le-one}
 use Rattle.layout.specs.Table.{slot}
 use Rattle.layout.specs.Memory.{Memory, Reach, reach-end, cell_in_lem}
@@ -45,13 +45,6 @@ pub record Loaded (z : Sizes) (s : List ℕ) (i : ℕ) (p : Proc) : Type 0 where
 pub record Named (z : Sizes) (s : List ℕ) (i : ℕ) (r : List ℕ) : Type 0 where
   pub text : r ≡ name_of (mem_in z s) i
 
--- As it is read: the first j bytes are those from `at` on.
-pub record Naming (s : List ℕ) (at : ℕ) (text : List ℕ) (j : ℕ) : Type 0 where
-  pub within : j ≤ 28
-  pub whole : length text ≡ 28
-  pub fits : at + 28 ≤ length s
-  pub read : (k : ℕ) → k < j → get_or text k 0 ≡ get_or s (at + k) 0
-
 -- the bytes of record i's name lie within the bytes, and each is one of the memory's
 name-reach : {z : Sizes} {s : List ℕ} {i : ℕ} (j : ℕ) → LoadAsks z s i → j < 28 → Reach fields.layout1 (fields.counts (sizes_in z)) s (slot 2 0 1) (28 * i + j)
 name-reach j a l = record { inside = record { region = lit< tt; end = lit< tt }; index = omega (arith, a.index); long = a.long }
@@ -65,60 +58,36 @@ name_byte_lem z s i j a l =
 pub name-within : (z : Sizes) (s : List ℕ) (i j : ℕ) → LoadAsks z s i → j < 28 → start_in z 2 + i * 28 + j < length s
 name-within z s i j a l = omega (arith, reach-end (name-reach {z = z} j a l))
 
-pub naming_start
-    : {z : Sizes} {s : List ℕ} {i at : ℕ} {text : List ℕ} {j : ℕ}
-    → LoadAsks z s i
-    → at ≡ start_in z 2 + i * 28
-    → length text ≡ 28
-    → j ≡ 0
-    → Naming s at text j
-naming_start {z} {s} {i} a e l q =
-    record {
-      within = omega arith;
-      whole = l;
-      fits = omega (arith, name-within z s i 27 a (lit< tt));
-      read = λ k h. absurd (omega arith);
-    }
+-- The part that is record i's name ends within the bytes.
+pub name-end : (z : Sizes) (s : List ℕ) {i at : ℕ} → i < z.processes → total_in z ≤ length s → at ≡ start_in z 2 + i * 28 → at + 28 ≤ length s
+name-end z s {i} h l e = omega (arith, name-within z s i 27 (record { index = h; long = l }) (lit< tt))
 
-pub naming_more
-    : {s : List ℕ} {at : ℕ} {text text' : List ℕ} {j j' : ℕ}
-    → Naming s at text j
-    → j < 28
-    → text' ≡ set text j (get_or s (at + j) 0)
-    → j' ≡ j + 1
-    → Naming s at text' j'
-naming_more {s} {at} {text} {text'} {j} {j'} n l d q =
-    record {
-      within = omega arith;
-      whole = rw d (length-set text j (get_or s (at + j) 0) ∙ n.whole);
-      fits = n.fits;
-      read = λ k h. go k (eqb j k) refl (omega arith);
-    }
-  where
-    go : (k : ℕ) (b : Bool) → eqb j k ≡ b → k ≤ j → get_or text' k 0 ≡ get_or s (at + k) 0
-    go k true x h =
-        let y : j ≡ k = eqb-true j k x in
-        rw (d, ← y) (get_or-set_same text j (get_or s (at + j) 0) 0 (omega (arith, n.whole)))
-    go k false x h =
-        rw d (get_or-set_other text j k (get_or s (at + j) 0) 0 (λ y. eqb-false j k x (sym y)) ∙ n.read k (omega (arith, eqb-false j k x)))
-
-pub naming_end
-    : {z : Sizes} {s : List ℕ} {i at : ℕ} {text : List ℕ} {j : ℕ}
-    → LoadAsks z s i
+-- That part is the name.
+pub named
+    : {z : Sizes} {s text : List ℕ} {i at : ℕ}
+    → i < z.processes
+    → total_in z ≤ length s
     → at ≡ start_in z 2 + i * 28
-    → Naming s at text j
-    → 28 ≤ j
+    → text ≡ take (at + 28 - at) (drop at s)
     → Named z s i text
 unfolding name_of
-naming_end {z} {s} {i} {at} {text} {j} a e n l =
+named {z} {s} {text} {i} {at} h l e d =
+    let m : Memory = mem_in z s in
+    let a : LoadAsks z s i = record { index = h; long = l } in
+    let n : at + 28 - at ≡ 28 = omega arith in
+    let w : length (take 28 (drop at s)) ≡ 28 = length-take-le 28 (drop at s) (simp length-drop (omega (arith, name-end z s h l e))) in
     record {
       text =
-          ext_get_or 0 text (table 28 (λ k. mem_in z s fields.name_byte (28 * i + k)))
-          (n.whole ∙ sym (table-length 28 (λ k. mem_in z s fields.name_byte (28 * i + k))))
-          (λ k h.
-          n.read k (omega (arith, n.whole))
-          ∙ rw e (name_byte_lem z s i k a (omega (arith, n.whole)))
-          ∙ sym (table-get 28 (λ x. mem_in z s fields.name_byte (28 * i + x)) k 0 (omega (arith, n.whole))));
+          d
+          ∙ ap (λ (k : ℕ). take k (drop at s)) n
+          ∙ ext_get_or 0 (take 28 (drop at s)) (table 28 (λ k. m fields.name_byte (28 * i + k)))
+          (w ∙ sym (table-length 28 (λ k. m fields.name_byte (28 * i + k))))
+          (λ k b.
+          let c : k < 28 = omega (arith, w) in
+          get_or-take 28 (drop at s) k 0 c
+          ∙ get_or-drop at s k 0
+          ∙ rw e (name_byte_lem z s i k a c)
+          ∙ sym (table-get 28 (λ x. m fields.name_byte (28 * i + x)) k 0 c));
     }
 
 -- The call of record i was loaded.

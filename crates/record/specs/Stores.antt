@@ -1,18 +1,20 @@
 -- Storing a whole record: the stores, in the order in which the code makes them.
-use Rattle.std.specs.Prelude.{◌≡◌, refl, List, [], ◌∷◌, ◌++◌, ℕ, suc, ◌+◌, ◌*◌, ◌≤◌, ◌<◌, length, get_or, take}
-use Rattle.std.proofs.Common.{ap, subst, ◌∙◌, add-one, arith, lit<, length-take, take-suc}
-use Rattle.std.proofs.Math.Seq.{take-length}
-use Rattle.memory.specs.Le.{put, length-put}
+use Rattle.std.specs.Prelude.{◌≡◌, refl, List, [], ◌∷◌, ◌++◌, ℕ, suc, ◌+◌, ◌-◌, ◌*◌, ◌≤◌, ◌<◌, length, get_or, set, take, drop}
+use Rattle.std.proofs.Common.{sym, ap, subst, ◌∙◌, arith, append_assoc, drop-drop, get_or-append-add}
+use Rattle.std.proofs.Math.Seq.{length-sets}
+use Rattle.std.proofs.lemmas.List.Edits.{sets, sets-eq}
+use Rattle.memory.specs.Le.{put, put_one}
+use Rattle.machine.specs.Good.{Each}
 use Rattle.layout.specs.Memory.{write}
 use Rattle.layout.specs.Writes.{Write, to, writes}
 use Rattle.state.specs.Fields as fields
-use Rattle.state.specs.Places.{sizes_in, start_in, PutIn, Wrote, wrote_3}
+use Rattle.state.specs.Places.{sizes_in, start_in, total_in, PutIn, Wrote, wrote_3}
 use Rattle.layout.specs.Table.{slot}
 use Rattle.state.specs.declared.Sizes.{Sizes}
 use Rattle.record.specs.declared.Proc.{Proc}
 use Rattle.record.specs.declared.Resume.{Resume}
 use Rattle.record.specs.Resumes.{number_of, object_of, condition_of}
-use Rattle.record.specs.Loads.{LoadAsks, name-within}
+use Rattle.record.specs.Loads.{name-end}
 
 abbrev pub id_stores : ℕ → Proc → List Write
 id_stores i p = to fields.pid i p.pid ∷ to fields.parent i p.parent ∷ to fields.quantum_end i p.quantum_end ∷ []
@@ -38,85 +40,50 @@ number_stores i p = id_stores i p ++ tie_stores i p ++ count_stores i p
 abbrev pub record_stores : ℕ → Proc → List Write
 record_stores i p = number_stores i p ++ resume_stores i p.resume ++ name_stores (28 * i) p.text
 
--- Bytes put one after another from a place on.
-unfoldable pub put_bytes : List ℕ → ℕ → List ℕ → List ℕ
-put_bytes s at [] = s
-put_bytes s at (b ∷ bs) = put_bytes (put 1 s at b) (suc at) bs
+-- They are those bytes set one after another.
+names-set
+    : (z : Sizes) (s : List ℕ) (k : ℕ) (bs : List ℕ)
+    → Each (λ b. b < 256) bs
+    → writes fields.layout1 (fields.counts (sizes_in z)) s (name_stores k bs) ≡ sets s (start_in z 2 + k) bs
+unfolding name_stores write
+names-set z s k [] a = refl
+names-set z s k (b ∷ bs) a =
+    names-set z (put 1 s (start_in z 2 + k * 1 + 0) b) (suc k) bs a.1
+    ∙ ap (λ (t : List ℕ). sets t (start_in z 2 + suc k) bs) (put_one s (start_in z 2 + k * 1 + 0) b a.0)
+    ∙ ap (λ (x : ℕ). sets (set s x b) (start_in z 2 + suc k) bs) (omega arith)
+    ∙ ap (λ (x : ℕ). sets (set s (start_in z 2 + k) b) x bs) (omega arith)
 
-put_last : (s : List ℕ) (at : ℕ) (bs : List ℕ) (b : ℕ) → put_bytes s at (bs ++ b ∷ []) ≡ put 1 (put_bytes s at bs) (at + length bs) b
-unfolding put_bytes
-put_last s at [] b = ap (λ (k : ℕ). put 1 s k b) (omega arith)
-put_last s at (x ∷ bs) b = put_last (put 1 s at x) (suc at) bs b ∙ ap (λ (k : ℕ). put 1 (put_bytes (put 1 s at x) (suc at) bs) k b) (omega arith)
+-- The bytes of a part are bytes of the whole.
+each-byte : (p bs q : List ℕ) → ((k : ℕ) → get_or (p ++ (bs ++ q)) k 0 < 256) → Each (λ b. b < 256) bs
+each-byte p [] q h = tt
+each-byte p (b ∷ bs) q h = (
+  subst (λ (x : ℕ). x < 256) (get_or-append-add p (b ∷ (bs ++ q)) 0 0) (h (length p + 0)),
+  each-byte (p ++ b ∷ []) bs q (λ k. subst (λ (l : List ℕ). get_or l k 0 < 256) (sym (append_assoc p (b ∷ []) (bs ++ q))) (h k)),
+)
 
-length-bytes : (s : List ℕ) (at : ℕ) (bs : List ℕ) → length (put_bytes s at bs) ≡ length s
-unfolding put_bytes
-length-bytes s at [] = refl
-length-bytes s at (b ∷ bs) = length-bytes (put 1 s at b) (suc at) bs ∙ length-put 1 s at b
-
--- Those are the stores of a name.
-names-put : (z : Sizes) (s : List ℕ) (k : ℕ) (bs : List ℕ) → put_bytes s (start_in z 2 + k) bs ≡ writes fields.layout1 (fields.counts (sizes_in z)) s (name_stores k bs)
-unfolding put_bytes name_stores write
-names-put z s k [] = refl
-names-put z s k (b ∷ bs) =
-    ap (λ (x : ℕ). put_bytes (put 1 s x b) (suc (start_in z 2 + k)) bs) (omega arith)
-    ∙ ap (λ (x : ℕ). put_bytes (put 1 s (start_in z 2 + k * 1 + 0) b) x bs) (omega arith)
-    ∙ names-put z (put 1 s (start_in z 2 + k * 1 + 0) b) (suc k) bs
-
--- `store_name` as it goes: the first j bytes are put.
-pub record Storing (s₀ : List ℕ) (text : List ℕ) (at : ℕ) (s : List ℕ) (j : ℕ) : Type 0 where
-  pub within : j ≤ 28
-  pub whole : length text ≡ 28
-  pub fits : at + 28 ≤ length s₀
-  pub long : length s ≡ length s₀
-  pub bytes : s ≡ put_bytes s₀ at (take j text)
-
-pub storing_start
-    : {z : Sizes} {s : List ℕ} {i at : ℕ} {text : List ℕ} {j : ℕ}
-    → LoadAsks z s i
+-- The part of the bytes that is record i's name is replaced by a text.
+pub name-stored
+    : (text : List ℕ) {z : Sizes} {s s' : List ℕ} {i at : ℕ}
+    → i < z.processes
+    → total_in z ≤ length s
     → at ≡ start_in z 2 + i * 28
     → length text ≡ 28
-    → j ≡ 0
-    → Storing s text at s j
-unfolding put_bytes
-storing_start {z} {s} {i} a e l q =
-    record { within = omega arith; whole = l; fits = omega (arith, name-within z s i 27 a (lit< tt)); long = refl; bytes = rw q }
-
-pub storing_more
-    : {s₀ s s' text : List ℕ} {at j j' b : ℕ}
-    → Storing s₀ text at s j
-    → j < 28
-    → b ≡ get_or text j 0
-    → s' ≡ put 1 s (at + j) b
-    → j' ≡ j + 1
-    → Storing s₀ text at s' j'
-storing_more {s₀} {s} {s'} {text} {at} {j} {j'} {b} w l e d q =
+    → s' ≡ take at s ++ (text ++ drop (at + 28 - at) (drop at s))
+    → ((k : ℕ) → get_or s' k 0 < 256)
+    → Wrote z s s' (name_stores (28 * i) text)
+name-stored text {z} {s} {s'} {i} {at} h l e w d f =
+    let n : at + 28 - at ≡ length text = omega (arith, w) in
+    let g : Each (λ b. b < 256) text = each-byte (take at s) text (drop (at + 28 - at) (drop at s)) (λ k. subst (λ (x : List ℕ). get_or x k 0 < 256) d (f k)) in
+    let b : s' ≡ sets s at text =
+    d
+    ∙ ap (λ (k : ℕ). take at s ++ (text ++ drop k (drop at s))) n
+    ∙ ap (λ (x : List ℕ). take at s ++ (text ++ x)) (drop-drop (length text) at s)
+    ∙ sym (append_assoc (take at s) text (drop (at + length text) s))
+    ∙ sym (sets-eq text s at (omega (arith, name-end z s h l e, w)))
+    in
     record {
-      within = omega arith;
-      whole = w.whole;
-      fits = w.fits;
-      long = rw d (length-put 1 s (at + j) b ∙ w.long);
-      bytes =
-          rw (q, add-one, take-suc text j 0 (omega (arith, w.whole)), put_last, length-take, d, e, w.bytes)
-          (ap (λ (k : ℕ). put 1 (put_bytes s₀ at (take j text)) (at + k) (get_or text j 0)) (omega (arith, w.whole)));
-    }
-
-pub storing_end
-    : {z : Sizes} {s₀ s : List ℕ} {i at : ℕ} {text : List ℕ} {j : ℕ}
-    → LoadAsks z s₀ i
-    → at ≡ start_in z 2 + i * 28
-    → Storing s₀ text at s j
-    → 28 ≤ j
-    → Wrote z s₀ s (name_stores (28 * i) text)
-storing_end {z} {s₀} {s} {i} {at} {text} {j} a e w l =
-    let q : j ≡ length text = omega (arith, w.within, w.whole) in
-    record {
-      bytes =
-          w.bytes
-          ∙ ap (λ (k : ℕ). put_bytes s₀ at (take k text)) q
-          ∙ ap (λ (x : List ℕ). put_bytes s₀ at x) (take-length text)
-          ∙ ap (λ (k : ℕ). put_bytes s₀ k text) (e ∙ omega arith)
-          ∙ names-put z s₀ (28 * i) text;
-      long = rw w.long a.long;
+      bytes = b ∙ ap (λ (k : ℕ). sets s k text) (e ∙ omega arith) ∙ sym (names-set z s (28 * i) text g);
+      long = rw b (omega (arith, l, length-sets s at text));
     }
 
 pub resume-stored

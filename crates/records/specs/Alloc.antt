@@ -88,57 +88,57 @@ module _ {z : Sizes} {s : List ℕ} {p : Proc} (a : AllocAsks z s p) where
           range = omega arith;
         }
 
-    module _ (ne : r ≡ 0 → ⊥) {s₁ : List ℕ} {v : ℕ} (t : PidTaken z s s₁ v) where
-      here : (r - 1 < z.processes) × (mem_in z s fields.pid (r - 1) ≡ 0)
-      here = f.free (r - 1) (omega arith)
+  module _ {i : ℕ} (f : RecordFound z s (suc i)) {s₁ : List ℕ} {v : ℕ} (t : PidTaken z s s₁ v) where
+    here : (i < z.processes) × (mem_in z s fields.pid i ≡ 0)
+    here = f.free i refl
 
-      -- The pids are as they were.
-      newcomer : Newcomer (mem_in z s₁) p v
-      newcomer =
-          rw t.pid
-          (newcomer_same (ap (λ (x : Memory). x fields.pid) t.did.memory) (ap (λ (x : Memory). x fields.parent) t.did.memory) a.new)
+    -- The pids are as they were.
+    newcomer : Newcomer (mem_in z s₁) p v
+    newcomer =
+        rw t.pid
+        (newcomer_same (ap (λ (x : Memory). x fields.pid) t.did.memory) (ap (λ (x : Memory). x fields.parent) t.did.memory) a.new)
 
-      pub alloc-occupy : OccupyAsks z s₁ (r - 1) p v
-      alloc-occupy =
-          record {
-            owed = a.owed;
-            holds = t.did.holds a.owed a.holds;
-            index = here.0;
-            free = ap (λ (x : Memory). x fields.pid (r - 1)) t.did.memory ∙ here.1;
-            new = newcomer;
-            high = omega (arith, t.pid, a.room);
-            link = a.link;
-            text = a.text;
-          }
+    pub alloc-occupy : OccupyAsks z s₁ i p v
+    alloc-occupy =
+        record {
+          owed = a.owed;
+          holds = t.did.holds a.owed a.holds;
+          index = here.0;
+          free = ap (λ (x : Memory). x fields.pid i) t.did.memory ∙ here.1;
+          new = newcomer;
+          high = omega (arith, t.pid, a.room);
+          link = a.link;
+          text = a.text;
+        }
 
-      -- What the code shows where one is.
-      pub alloc-one : {s₂ : List ℕ} → Occupied z s₁ s₂ (r - 1) p v → Allocated z s s₂ p r
-      unfolding machine_of
-      alloc-one {s₂} d =
-          let i : ℕ = r - 1 in
-          let n : ℕ = z.processes in
-          let q : r ≡ suc i = omega arith in
-          let above : 0 < v = omega (arith, newcomer.above i) in
-          let first : Touched z s s₁ = touched-did t.did (same_use refl refl refl refl refl refl refl refl refl) in
-          record {
-            none = λ e. absurd (ne e);
-            one = λ x.
-                record {
-                  found = sym f.machine ∙ ap link_to q;
-                  did =
-                      did_as (did_join t.did d.did (same_use refl refl refl refl refl refl refl refl refl))
-                      (λ k. pid_stores (mem_in z s) ++ occupy_stores n (t.did.memory k) i p (t.pid k))
-                      (λ k. occupy_mem n (t.did.memory k) i p (t.pid k))
-                      (λ k. with_process i (new_process (t.pid k) p) (t.did.machine k));
-                  nowhere = d.nowhere;
-                  ceased =
-                      subst (Ceased z (mem_in z s)) (sym d.did.memory)
-                      (ceased_join first.spares.ceased d.did.spared
-                      (occupy-ceased n (mem_in z s₁) i p v (ap (λ (x : Memory). x fields.pid i) t.did.memory ∙ here.1) above)
-                      (quiet_calm first.same.calm (occupy-alive n (mem_in z s₁) i p v above)));
-                  alive =
-                      subst (Alive (mem_in z s)) (sym d.did.memory)
-                      (alive_join (alive-kin first.same.kin) (occupy-alive n (mem_in z s₁) i p v above));
-                };
-            range = f.range;
-          }
+    -- What the code shows where one is.
+    pub alloc-one : {s₂ : List ℕ} → Occupied z s₁ s₂ i p v → Allocated z s s₂ p (suc i)
+    unfolding machine_of
+    alloc-one {s₂} d =
+        let n : ℕ = z.processes in
+        let above : 0 < v = omega (arith, newcomer.above i) in
+        let first : Touched z s s₁ = touched-did t.did (same_use refl refl refl refl refl refl refl refl refl) in
+        let one : AllocOne z s s₂ p i =
+        record {
+          found = sym f.machine;
+          did =
+              did_as (did_join t.did d.did (same_use refl refl refl refl refl refl refl refl refl))
+              (λ k. pid_stores (mem_in z s) ++ occupy_stores n (t.did.memory k) i p (t.pid k))
+              (λ k. occupy_mem n (t.did.memory k) i p (t.pid k))
+              (λ k. with_process i (new_process (t.pid k) p) (t.did.machine k));
+          nowhere = d.nowhere;
+          ceased =
+              subst (Ceased z (mem_in z s)) (sym d.did.memory)
+              (ceased_join first.spares.ceased d.did.spared
+              (occupy-ceased n (mem_in z s₁) i p v (ap (λ (x : Memory). x fields.pid i) t.did.memory ∙ here.1) above)
+              (quiet_calm first.same.calm (occupy-alive n (mem_in z s₁) i p v above)));
+          alive =
+              subst (Alive (mem_in z s)) (sym d.did.memory)
+              (alive_join (alive-kin first.same.kin) (occupy-alive n (mem_in z s₁) i p v above));
+        }
+        in
+        record {
+          none = λ e. absurd (omega (arith, e));
+          one = λ x. subst (AllocOne z s s₂ p) (omega arith) one;
+          range = f.range;
+        }

@@ -3,165 +3,127 @@
 // agree, at sizes of no state, at a file that cannot be read whole or at a rest of arguments, names it, and says how many agreed.
 #![tactic(auto)]
 
-ghost use Rattle.std.specs.Prelude.{◌≡◌, suc, ◌≤◌, ◌<◌, length};
-ghost use Rattle.replay.specs.Replay.{ListAsks, Within};
+ghost use Rattle.std.specs.Prelude.{◌≡◌, suc, ◌≤◌, ◌<◌, length, IfSome};
+ghost use Rattle.replay.specs.Replay.{ListAsks};
 
-use listing::Fed;
+use line::Machine;
+use listing::Listing;
+use print::Out;
 use state::Sizes;
 use std::env::{Env, FillError};
 use std::fs::File;
 use std::io;
 use std::io::{Read, Write};
 
-// A number read from a text, and where what is behind it and one byte more begins.
+// Why a list does not agree, with the number of the argument that is at fault.
 #[derive(Clone, Copy)]
-struct Parsed {
-    value: u64,
-    next: usize,
+enum Fault {
+    // No sizes of a state, or too large.
+    Unmade(usize),
+    // A file that cannot be read whole.
+    Unread(usize),
+    // Another listing, from this line on.
+    Differs(usize, u64),
+    // A rest of arguments.
+    Rest(usize),
 }
 
 // A number with one more digit, and 0 where there would be too many.
 fn with_digit(value: u64, b: u8) -> u64 {
-    if value > 100_000_000_000_000_000 {
+    if value > 100_000_000_000_000_000 || !b.is_ascii_digit() {
         return 0;
     }
-    value * 10 + digit(b)
+    value * 10 + (b - b'0') as u64
 }
 
-// The number at `from`.
-fn number_at(text: &[u8], from: usize) -> Parsed {
-    let mut value: u64 = 0;
-    let mut i = from;
-    while i < text.len() && is_digit(text[i]) {
-        value = with_digit(value, text[i]);
-        i += 1;
+// The number at the front of a text, and what is behind it and one byte more.
+fn number_at(text: &[u8]) -> (u64, &[u8]) {
+    let mut value = 0;
+    for (i, b) in text.iter().enumerate() {
+        if !b.is_ascii_digit() {
+            return (value, &text[i + 1..]);
+        }
+        value = with_digit(value, *b);
     }
-    if i < text.len() {
-        i += 1;
-    }
-    Parsed { value, next: i }
-}
-
-fn is_digit(b: u8) -> bool {
-    48 <= b && b <= 57
-}
-
-// The value of a digit, and of any other byte 0.
-fn digit(b: u8) -> u64
-    ensures { result ≤ 9 }
-{
-    if b < 48 {
-        return 0;
-    }
-    if b > 57 {
-        return 0;
-    }
-    (b - 48) as u64
+    (value, b"")
 }
 
 // Makes a fresh state of the sizes in the text. Could it be made?
 fn open(s: &mut [u8], text: &[u8]) -> bool {
-    let p = number_at(text, 0);
-    let r = number_at(text, p.next);
-    let q = number_at(text, r.next);
-    let k = number_at(text, q.next);
-    let c = number_at(text, k.next);
-    let hz = number_at(text, c.next);
-    make::make(s, p.value, r.value, q.value, k.value, c.value, hz.value) == 0
+    let (processes, text) = number_at(text);
+    let (rendez, text) = number_at(text);
+    let (locks, text) = number_at(text);
+    let (timers, text) = number_at(text);
+    let (cells, text) = number_at(text);
+    let (hz, _) = number_at(text);
+    make::make(s, processes, rendez, locks, timers, cells, hz) == 0
 }
 
-// Buffers for the line begun, a step's bytes and a message.
-fn held_buffer() -> [u8; 4097]
-    ensures { 4097 ≡ length result }
+// The listing of the steps in `input`, in the buffer: how long it is. None: there is no room.
+fn list(state: &mut [u8], sizes: Sizes, input: &[u8], buffer: &mut [u8]) -> Option<usize>
+    requires { ListAsks sizes state.old input.now }
+    ensures { IfSome result (λ n. n ≤ length buffer.new) }
 {
-    [0; 4097]
-}
-
-fn step_buffer() -> [u8; 4128]
-    ensures { 4128 ≡ length result }
-{
-    [0; 4128]
-}
-
-fn message_buffer() -> [u8; 127]
-    ensures { 127 ≡ length result }
-{
-    [0; 127]
-}
-
-// The listing of the steps in `input`, in `out`: how long it is, and 0 where there is no room.
-fn list(
-    s: &mut [u8],
-    z: Sizes,
-    input: &[u8],
-    held: &mut [u8],
-    b: &mut [u8],
-    message: &mut [u8],
-    out: &mut [u8],
-) -> usize
-    requires { ListAsks z s.old input.now held.old b.old message.old }
-    ensures { Within out.new result }
-{
-    if out.len() < 34 {
-        return 0;
+    if buffer.len() < 34 {
+        return None;
     }
-    let used = listing::begin(out);
-    let start = Fed {
-        from: 0,
+    let mut listing = Listing {
+        machine: Machine {
+            state,
+            sizes,
+            step: [0; line::STEP_SIZE],
+            message: [0; line::MESSAGE_SIZE],
+        },
+        held: [0; listing::HELD_SIZE],
         have: 0,
-        n: 1,
-        used,
+        number: 1,
     };
-    let fed = listing::feed(s, z, input, held, b, message, out, start);
-    if out.len() - fed.used < line::most(z) {
-        return 0;
+    let mut out = Out {
+        bytes: buffer,
+        used: 0,
+    };
+    listing::begin(&mut out);
+    listing.feed(input, 0, &mut out);
+    if out.bytes.len() - out.used < line::most(sizes) {
+        return None;
     }
-    listing::finish(s, z, held, b, message, out, fed)
+    listing.finish(&mut out);
+    Some(out.used)
 }
 
-// The same for the state in `s`; 0 where it is none.
-fn listing_of(s: &mut [u8], input: &[u8], out: &mut [u8]) -> usize
-    ensures { Within out.new result }
+// The same for the state in `s`. None, too, where it is no state.
+fn listing_of(s: &mut [u8], input: &[u8], buffer: &mut [u8]) -> Option<usize>
+    ensures { IfSome result (λ n. n ≤ length buffer.new) }
 {
-    let mut held = held_buffer();
-    let mut b = step_buffer();
-    let mut message = message_buffer();
-    let formed = verify::check(s);
-    if formed {
-        let z = verify::load_sizes(s);
-        if input.len() < 1_000_000_000 {
-            return list(s, z, input, &mut held, &mut b, &mut message, out);
-        }
+    if !verify::check(s) {
+        return None;
     }
-    0
+    if 1_000_000_000 <= input.len() {
+        return None;
+    }
+    let sizes = verify::load_sizes(s);
+    list(s, sizes, input, buffer)
 }
 
 // The number of the line behind a byte of line `line`.
 fn after(line: u64, b: u8) -> u64 {
-    if b != b'\n' {
-        return line;
+    if b == b'\n' {
+        line.saturating_add(1)
+    } else {
+        line
     }
-    if line == u64::MAX {
-        return line;
-    }
-    line + 1
 }
 
-// The number of the first line in which two texts differ, 0 where they are the same.
-fn difference(a: &[u8], b: &[u8]) -> u64 {
-    let mut line: u64 = 1;
-    let mut i = 0;
-    while i < a.len() && i < b.len() {
-        if a[i] != b[i] {
-            return line;
+// The number of the first line in which two texts differ.
+fn difference(a: &[u8], b: &[u8]) -> Option<u64> {
+    let mut line = 1;
+    for (x, y) in a.iter().zip(b) {
+        if x != y {
+            return Some(line);
         }
-        line = after(line, a[i]);
-        i += 1;
+        line = after(line, *x);
     }
-    if a.len() == b.len() {
-        return 0;
-    }
-    line
+    if a.len() == b.len() { None } else { Some(line) }
 }
 
 // A buffer for a state, a file or a listing.
@@ -171,16 +133,9 @@ fn big_buffer() -> [u8; 262144]
     [0; 262144]
 }
 
-// What was read of a file: whether that is all of it, and how many bytes.
-#[derive(Clone, Copy)]
-struct Loaded {
-    is_whole: bool,
-    length: usize,
-}
-
 // Reads until the buffer is full, the input ends or a read fails: how many bytes it put at the start of the buffer.
 fn read_full<R: Read>(from: &mut R, buf: &mut [u8]) -> usize
-    ensures { Within buf.new result }
+    ensures { result ≤ length buf.new }
 {
     let mut length = 0;
     while length < buf.len() {
@@ -192,21 +147,21 @@ fn read_full<R: Read>(from: &mut R, buf: &mut [u8]) -> usize
     length
 }
 
-// Reads to the end; not whole where a read fails or more comes than the buffer holds.
-fn load<R: Read>(from: &mut R, buf: &mut [u8]) -> Loaded
-    ensures { Within buf.new result.length }
+// Reads to the end: how many bytes. None: a read fails or more comes than the buffer holds.
+fn load<R: Read>(from: &mut R, buf: &mut [u8]) -> Option<usize>
+    ensures { IfSome result (λ n. n ≤ length buf.new) }
 {
     let length = read_full(from, buf);
     let mut rest = [0u8; 1];
-    Loaded {
-        is_whole: matches!(from.read(&mut rest), Ok(0)),
-        length,
+    match from.read(&mut rest) {
+        Ok(0) => Some(length),
+        _ => None,
     }
 }
 
-// Reads the file that argument `i` names; not whole where it cannot be opened or read, or is longer than the buffer.
-fn read_file(rt: HostRuntime, i: usize, buf: &mut [u8]) -> Loaded
-    ensures { Within buf.new result.length }
+// Reads the file that argument `i` names: how many bytes. None: it cannot be opened or read, or is longer than the buffer.
+fn read_file(rt: HostRuntime, i: usize, buf: &mut [u8]) -> Option<usize>
+    ensures { IfSome result (λ n. n ≤ length buf.new) }
 {
     let mut word = word_buffer();
     let n = argument(rt, i, &mut word);
@@ -217,17 +172,16 @@ fn read_file(rt: HostRuntime, i: usize, buf: &mut [u8]) -> Loaded
             Err(e) => _ = eprintln!(rt; "{name}: {e}"),
         }
     }
-    Loaded {
-        is_whole: false,
-        length: 0,
-    }
+    None
 }
 
-// The number of the first line in which the listing of `input` is not the one that is kept, 0 where they are the same.
-fn compare(s: &mut [u8], input: &[u8], kept: &[u8]) -> u64 {
+// The number of the first line in which the listing of `input` is not the one that is kept. What has no listing has an empty one.
+fn compare(s: &mut [u8], input: &[u8], kept: &[u8]) -> Option<u64> {
     let mut out = big_buffer();
-    let n = listing_of(s, input, &mut out);
-    difference(&out[..n], kept)
+    match listing_of(s, input, &mut out) {
+        Some(n) => difference(&out[..n], kept),
+        None => difference(b"", kept),
+    }
 }
 
 // Room for an argument.
@@ -239,7 +193,7 @@ fn word_buffer() -> [u8; 4096]
 
 // Argument `i` at the start of the buffer: how many bytes it has, 0 where there is none or it does not fit.
 fn argument(rt: HostRuntime, i: usize, buf: &mut [u8]) -> usize
-    ensures { Within buf.new result }
+    ensures { result ≤ length buf.new }
 {
     match rt.arg(i, buf) {
         Ok(n) => n,
@@ -268,26 +222,21 @@ fn say(rt: HostRuntime, i: usize, what: &[u8]) -> io::Result<()> {
     out.write_all(what)
 }
 
-// The same, and the line that differs.
-fn report(rt: HostRuntime, i: usize, line: u64) -> io::Result<()> {
-    say(rt, i, b": another listing, from line ")?;
-    println!(rt; "{line}")
+// Says why a list does not agree.
+fn report(rt: HostRuntime, fault: Fault) -> io::Result<()> {
+    match fault {
+        Fault::Unmade(i) => say(rt, i, b": no sizes of a state, or too large\n"),
+        Fault::Unread(i) => say(rt, i, b": cannot be read whole\n"),
+        Fault::Rest(i) => say(rt, i, b": arguments come in threes\n"),
+        Fault::Differs(i, line) => {
+            say(rt, i, b": another listing, from line ")?;
+            println!(rt; "{line}")
+        },
+    }
 }
 
-fn say_unread(rt: HostRuntime, i: usize) -> io::Result<()> {
-    say(rt, i, b": cannot be read whole\n")
-}
-
-fn say_rest(rt: HostRuntime, i: usize) -> io::Result<()> {
-    say(rt, i, b": arguments come in threes\n")
-}
-
-fn say_unmade(rt: HostRuntime, i: usize) -> io::Result<()> {
-    say(rt, i, b": no sizes of a state, or too large\n")
-}
-
-// Does the list that the three arguments from `i` on name agree? Where not, says why.
-fn replay_list(rt: HostRuntime, i: usize) -> io::Result<bool>
+// Does the list that the three arguments from `i` on name agree?
+fn replay_list(rt: HostRuntime, i: usize) -> Result<(), Fault>
     requires { suc (suc i) < 18446744073709551616 }
 {
     let mut state = big_buffer();
@@ -298,22 +247,18 @@ fn replay_list(rt: HostRuntime, i: usize) -> io::Result<bool>
     let steps = read_file(rt, i + 1, &mut input);
     let lines = read_file(rt, i + 2, &mut kept);
     if !open(&mut state, &sizes[..n]) {
-        say_unmade(rt, i)?;
-        return Ok(false);
+        return Err(Fault::Unmade(i));
     }
-    if !steps.is_whole {
-        say_unread(rt, i + 1)?;
-        return Ok(false);
+    let Some(steps) = steps else {
+        return Err(Fault::Unread(i + 1));
+    };
+    let Some(lines) = lines else {
+        return Err(Fault::Unread(i + 2));
+    };
+    match compare(&mut state, &input[..steps], &kept[..lines]) {
+        None => Ok(()),
+        Some(line) => Err(Fault::Differs(i + 1, line)),
     }
-    if !lines.is_whole {
-        say_unread(rt, i + 2)?;
-        return Ok(false);
-    }
-    let line = compare(&mut state, &input[..steps.length], &kept[..lines.length]);
-    if line != 0 {
-        report(rt, i + 1, line)?;
-    }
-    Ok(line == 0)
 }
 
 // Says how many agreed.
@@ -327,10 +272,11 @@ fn main(rt: HostRuntime) -> io::Result<()> {
     let mut agreed: u64 = 0;
     while i < count {
         if count - i < 3 {
-            say_rest(rt, i)?;
+            report(rt, Fault::Rest(i))?;
             return tell(rt, agreed);
         }
-        if !replay_list(rt, i)? {
+        if let Err(fault) = replay_list(rt, i) {
+            report(rt, fault)?;
             return tell(rt, agreed);
         }
         agreed += 1;

@@ -3,3 +3,7 @@ pub mod Facts
 pub mod Code
 pub mod Loop
 pub mod Walk
+pub mod Below
+pub mod Read
+pub mod Tests
+pub mod Reach

@@ -1,4 +1,4 @@
--- A run is a course of exported steps, so demand 3 is said of it.
+-- A run is a course of exported steps, so `Demand3` is said of it.
 use Rattle.std.specs.Prelude.{◌≡◌, refl, List, [], ◌∷◌, ◌++◌, map, ℕ, suc, length, take, drop}
 use Rattle.std.proofs.Common.{sym, ap, subst, ◌∙◌, length-take-le, take_at, drop_at}
 use Rattle.memory.specs.Le.{le}
@@ -53,7 +53,7 @@ run-course {bs = b ∷ bs} {s = s} {a = a} (onward {s₁ = s₁} {r = r} {a₂ =
       course = (o.step, c.course);
     }
 
--- Demand 3 and the rest, of a run from what `make` wrote: of what its records held and hold.
+-- `Demanded`, of a run from what `make` wrote: of what its records held and hold.
 pub record RunDemanded (p r q k c hz : ℕ) (bs : List (List ℕ)) (s s' a a' : List ℕ) (n : ℕ) : Type 0 where
   pub run : AsCourse bs (make_bytes p r q k c hz s) s' a a' n
   pub demanded : Demanded p r q k c hz run.handed run.back s'

@@ -1,5 +1,5 @@
 -- One step, with its answer in the record.
-use Rattle.std.specs.Prelude.{◌≡◌, refl, Bool, true, false, List, [], ◌++◌, ℕ, ◌+◌, ◌-◌, ◌≤◌, ltb, length, take, drop}
+use Rattle.std.specs.Prelude.{◌≡◌, refl, Bool, true, false, List, [], ◌++◌, ℕ, ◌+◌, ◌-◌, ◌≤◌, ltb, length, take, drop, Result, Err}
 use Rattle.std.proofs.Common.{sym, ap, subst, ◌∙◌, append-nil, arith, ltb-true, ltb-false, length-append, length-drop, drop_of_length-le, length-take-le, take_all, get_or-take, drop_at}
 use Rattle.std.proofs.Math.ListN.{get_or-append}
 use Rattle.memory.specs.Le.{le, le_ext}
@@ -7,7 +7,8 @@ use Rattle.machine.specs.Bytes.{decode}
 use Rattle.state.specs.WellFormed.{WellFormed}
 use Rattle.state.specs.declared.Sizes.{Sizes}
 use Rattle.outcome.specs.declared.Reply.{Reply}
-use Rattle.outcome.specs.declared.Reply.TheVariants.{Refused}
+use Rattle.outcome.specs.declared.Refusal.{Refusal}
+use Rattle.outcome.specs.declared.Refusal.TheVariants.{NotWellFormed}
 use Rattle.proc.specs.Taken.{Taken}
 use Rattle.step.specs.declared.Words.{Words}
 use Rattle.step.specs.Words.{Lent, lent, the_words, WordsAre}
@@ -34,7 +35,7 @@ le-front r x i l h =
 
 -- The exported step, from an answer that is written into the record.
 exported_record
-    : {s s' b m m' r₁ r' : List ℕ} {p : Reply} {w : Words} (r : List ℕ)
+    : {s s' b m m' r₁ r' : List ℕ} {p : Result Reply Refusal} {w : Words} (r : List ℕ)
     → Replied s s' b m m' p
     → WordsAre p w
     → words_at r₁ ≡ words_at r
@@ -54,7 +55,7 @@ exported_record {s} {s'} {b} {m} {m'} {r₁} {r'} {p} {w} r t q e a = go (ltb w.
 
 -- What the code does for one step: it lends the record behind its words as the message buffer, and then writes the words.
 pub one-done
-    : {z : Sizes} {s s' b m' r r₁ r' : List ℕ} {p : Reply} {w : Words}
+    : {z : Sizes} {s s' b m' r r₁ r' : List ℕ} {p : Result Reply Refusal} {w : Words}
     → OneAsks z s r
     → Taken z s s' (decode b) (take (length r - 32) (drop 32 r)) m' p
     → length m' ≡ length (take (length r - 32) (drop 32 r))
@@ -90,7 +91,7 @@ one-done {z} {s} {s'} {b} {m'} {r} {r₁} {r'} {p} {w} a t k e q d =
 -- On a state that is not well formed: 1.
 pub one-refused : {s b r r' : List ℕ} → (WellFormed s → ⊥) → Written r r' (the_words 1 0 0 0) → OneRan s s b r r'
 one-refused {s} {b} {r} {r'} n d =
-    let v : Replied s s b (drop 32 r) (drop 32 r) (Refused 1) =
+    let v : Replied s s b (drop 32 r) (drop 32 r) (Err NotWellFormed) =
     refuses n (record { reply = refl; message = refl; state = refl })
     in
     record {

@@ -1,5 +1,5 @@
 -- The steps in bytes, one by one.
-use Rattle.std.specs.Prelude.{if◌then◌else◌, ◌≡◌, refl, Bool, true, false, List, [], ◌∷◌, ℕ, zero, suc, ◌+◌, ◌*◌, ◌-◌, ◌≤◌, ◌<◌, ltb, length, take, drop}
+use Rattle.std.specs.Prelude.{if◌then◌else◌, ◌≡◌, refl, Bool, true, false, List, [], ◌∷◌, ℕ, zero, suc, ◌+◌, ◌*◌, ◌-◌, ◌≤◌, ◌<◌, ltb, length, take, drop, Option, Some, None}
 use Rattle.std.proofs.Common.{sym, ap, ap₂, ◌∙◌, arith, add-zero, add-suc, lt-ltb, le-ltb, ltb-true, ltb-false, length-drop, get_or-drop, drop-drop}
 use Rattle.memory.specs.Le.{le}
 use Rattle.run.specs.Ran.{first_end, steps_up_to, steps_in}
@@ -43,9 +43,9 @@ steps-some t h = go (length t) refl
         rw (le-ltb (length t) (first_end t) h)
         (ap (λ (x : List (List ℕ)). take (le 4 t 0) (drop 4 t) ∷ x) (enough k (length (drop (first_end t) t)) (drop (first_end t) t) (omega arith) (omega arith)))
 
--- Where the step at `at` ends; `at` where no whole step is there.
-unfoldable pub end_of : List ℕ → ℕ → ℕ
-end_of t at = if ltb (length (drop at t)) (first_end (drop at t)) then at else (at + first_end (drop at t))
+-- Where the step at `at` ends; none where no whole step is there.
+unfoldable pub end_of : List ℕ → ℕ → Option ℕ
+end_of t at = if ltb (length (drop at t)) (first_end (drop at t)) then None else Some (at + first_end (drop at t))
 
 -- A number behind the first `at` bytes.
 le-drop : (n : ℕ) (t : List ℕ) (at i : ℕ) → le n (drop at t) i ≡ le n t (at + i)
@@ -58,27 +58,30 @@ length_at : (t : List ℕ) (at : ℕ) → le 4 (drop at t) 0 ≡ le 4 t at
 length_at t at = le-drop 4 t at 0 ∙ ap (le 4 t) (add-zero at)
 
 -- What the code answers: fewer than 4 bytes are left, fewer than the length says, or a whole step.
-pub end_short : (t : List ℕ) (at : ℕ) → length t - at < 4 → at ≡ end_of t at
+pub end_short : (t : List ℕ) (at : ℕ) → length t - at < 4 → None ≡ end_of t at
 unfolding end_of
 end_short t at h = rw (lt-ltb (length (drop at t)) (first_end (drop at t)) (omega (arith, length-drop at t)))
 
-pub end-cut : (t : List ℕ) (at : ℕ) {n : ℕ} → n ≡ le 4 t at → length t - at - 4 < n → at ≡ end_of t at
+pub end-cut : (t : List ℕ) (at : ℕ) {n : ℕ} → n ≡ le 4 t at → length t - at - 4 < n → None ≡ end_of t at
 unfolding end_of
 end-cut t at e h = rw (lt-ltb (length (drop at t)) (first_end (drop at t)) (omega (arith, length-drop at t, length_at t at)))
 
-pub end_whole : (t : List ℕ) (at : ℕ) {n : ℕ} → 4 ≤ length t - at → n ≡ le 4 t at → n ≤ length t - at - 4 → at + 4 + n ≡ end_of t at
+pub end_whole : (t : List ℕ) (at : ℕ) {n : ℕ} → 4 ≤ length t - at → n ≡ le 4 t at → n ≤ length t - at - 4 → Some (at + 4 + n) ≡ end_of t at
 unfolding end_of
 end_whole t at l e h =
-    rw (le-ltb (length (drop at t)) (first_end (drop at t)) (omega (arith, length-drop at t, length_at t at))) (omega (arith, length_at t at))
+    rw (le-ltb (length (drop at t)) (first_end (drop at t)) (omega (arith, length-drop at t, length_at t at))) (ap (λ (k : ℕ). Some k) (omega (arith, length_at t at)))
+
+none-some : {n : ℕ} → None ≡ Some n → ⊥
+none-some e = let d : ◌≡◌ {A = ℕ} 0 1 = cc in omega arith
 
 -- No whole step is there.
-pub end_none : (t : List ℕ) (at : ℕ) {e : ℕ} → e ≡ end_of t at → e ≡ at → steps_in (drop at t) ≡ []
+pub end_none : (t : List ℕ) (at : ℕ) {o : Option ℕ} → o ≡ end_of t at → o ≡ None → steps_in (drop at t) ≡ []
 unfolding end_of
-end_none t at {e} h g = go (ltb (length (drop at t)) (first_end (drop at t))) refl
+end_none t at {o} h g = go (ltb (length (drop at t)) (first_end (drop at t))) refl
   where
     go : (b : Bool) → ltb (length (drop at t)) (first_end (drop at t)) ≡ b → steps_in (drop at t) ≡ []
     go true d = steps-none (drop at t) (ltb-true (length (drop at t)) (first_end (drop at t)) d)
-    go false d = let f : e ≡ at + first_end (drop at t) = rw d at h in absurd (omega arith)
+    go false d = let f : o ≡ Some (at + first_end (drop at t)) = rw d at h in absurd (none-some (sym g ∙ f))
 
 -- A whole step stands from `at` to e.
 pub record Whole (t : List ℕ) (at e : ℕ) : Type 0 where
@@ -86,14 +89,15 @@ pub record Whole (t : List ℕ) (at e : ℕ) : Type 0 where
   pub end : e ≤ length t
   pub steps : steps_in (drop at t) ≡ take (e - (at + 4)) (drop (at + 4) t) ∷ steps_in (drop e t)
 
-pub end-some : {t : List ℕ} {at e : ℕ} → at ≤ length t → e ≡ end_of t at → (e ≡ at → ⊥) → Whole t at e
+pub end-some : {t : List ℕ} {at e : ℕ} {o : Option ℕ} → at ≤ length t → o ≡ end_of t at → o ≡ Some e → Whole t at e
 unfolding end_of
-end-some {t} {at} {e} i h g = go (ltb (length (drop at t)) (first_end (drop at t))) refl
+end-some {t} {at} {e} {o} i h g = go (ltb (length (drop at t)) (first_end (drop at t))) refl
   where
     go : (b : Bool) → ltb (length (drop at t)) (first_end (drop at t)) ≡ b → Whole t at e
-    go true d = let f : e ≡ at = rw d at h in absurd (g f)
+    go true d = let f : o ≡ None = rw d at h in absurd (none-some (sym f ∙ g))
     go false d =
-        let f : e ≡ at + first_end (drop at t) = rw d at h in
+        let k : Some e ≡ Some (at + first_end (drop at t)) = sym g ∙ rw d at h in
+        let f : e ≡ at + first_end (drop at t) = cc in
         let l : first_end (drop at t) ≤ length (drop at t) = ltb-false (length (drop at t)) (first_end (drop at t)) d in
         let n : le 4 (drop at t) 0 ≡ e - (at + 4) = omega arith in
         record {

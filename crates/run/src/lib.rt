@@ -10,26 +10,28 @@ ghost use Rattle.run.specs.Record.{Written};
 ghost use Rattle.run.specs.One.{OneAsks, OneDone};
 ghost use Rattle.run.specs.Loop.{AllRefused};
 
+use memory::Number;
+use outcome::Refusal;
 use state::Sizes;
 use step::Words;
 
 // How long the record of an answer is: four words of 8 bytes, and the message buffer.
 const RECORD: usize = 160;
 
-// Where the step at `at` ends; `at` itself where no whole step is there.
-fn end_of(steps: &[u8], at: usize) -> usize
+// Where the step at `at` ends; none where no whole step is there.
+fn end_of(steps: &[u8], at: usize) -> Option<usize>
     requires { at ≤ length steps.now }
     ensures { result ≡ end_of steps.now at }
 {
     let left = steps.len() - at;
     if left < 4 {
-        return at;
+        return None;
     }
-    let n = memory::load32(steps, at) as usize;
+    let n = u32::load(steps, at) as usize;
     if left - 4 < n {
-        return at;
+        return None;
     }
-    at + 4 + n
+    Some(at + 4 + n)
 }
 
 // Puts an answer in words into its record: of a refusal the number alone.
@@ -37,13 +39,13 @@ fn write_words(r: &mut [u8], w: Words)
     requires { 32 ≤ length r.old }
     ensures { Written r.old r.new w }
 {
-    memory::store64(r, 0, w.number);
+    w.number.store(r, 0);
     if w.number < step::DONE {
         return;
     }
-    memory::store64(r, 8, w.first);
-    memory::store64(r, 16, w.second);
-    memory::store64(r, 24, w.length);
+    w.first.store(r, 8);
+    w.second.store(r, 16);
+    w.length.store(r, 24);
 }
 
 // Takes the step that the bytes `b` are. Its answer goes into the record `r`, which has the message buffer behind its words.
@@ -52,7 +54,7 @@ fn run_one(s: &mut [u8], z: Sizes, b: &[u8], r: &mut [u8])
     ensures { OneDone z s.old s.new b.now r.old r.new }
 {
     let reply = proc::take(s, z, b, &mut r[32..]);
-    let w = step::words_of(reply);
+    let w = Words::from(reply);
     write_words(r, w);
 }
 
@@ -61,12 +63,7 @@ fn refuse_one(r: &mut [u8])
     requires { 32 ≤ length r.old }
     ensures { Written r.old r.new (the_words 1 0 0 0) }
 {
-    let w = Words {
-        number: 1,
-        first: 0,
-        second: 0,
-        length: 0,
-    };
+    let w = Words::from(Err(Refusal::NotWellFormed));
     write_words(r, w);
 }
 
@@ -79,10 +76,9 @@ fn run_formed(s: &mut [u8], z: Sizes, steps: &[u8], answers: &mut [u8]) -> u64
     let mut k: usize = 0;
     let mut n: u64 = 0;
     while answers.len() - k >= RECORD {
-        let end = end_of(steps, at);
-        if end == at {
+        let Some(end) = end_of(steps, at) else {
             return n;
-        }
+        };
         let from = at + 4;
         let next = k + RECORD;
         run_one(s, z, &steps[from..end], &mut answers[k..next]);
@@ -101,10 +97,9 @@ fn refuse_all(steps: &[u8], answers: &mut [u8]) -> u64
     let mut k: usize = 0;
     let mut n: u64 = 0;
     while answers.len() - k >= RECORD {
-        let end = end_of(steps, at);
-        if end == at {
+        let Some(end) = end_of(steps, at) else {
             return n;
-        }
+        };
         let next = k + RECORD;
         refuse_one(&mut answers[k..next]);
         at = end;

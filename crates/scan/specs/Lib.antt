@@ -1,4 +1,4 @@
--- What the functions of the check ask, and what their code shows at each way out.
+-- What the functions decide, and what their walks and counts show at each way out.
 pub mod Asks
 pub mod Records
 pub mod Tallies

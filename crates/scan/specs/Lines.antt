@@ -1,123 +1,113 @@
 -- The run queue and the locks' queues, as one walk decides them.
-use Rattle.std.specs.Prelude.{◌≡◌, refl, true, false, List, ℕ, suc, ◌+◌, ◌-◌, ◌≤◌, length}
-use Rattle.std.proofs.Common.{sym, subst, ◌∙◌, arith}
-use Rattle.std.proofs.lemmas.Bool.{false≢true}
+use Rattle.std.specs.Prelude.{◌≡◌, refl, Option, Some, None, List, ℕ, suc, ◌+◌, ◌-◌, ◌≤◌, length}
+use Rattle.std.proofs.Common.{sym, ap, subst, ◌∙◌, arith}
 use Rattle.machine.specs.Good.{Each}
 use Rattle.layout.specs.Memory.{Memory}
 use Rattle.chain.specs.Links.{walk, Queue}
 use Rattle.chain.specs.Prefix.{prefix-end}
 use Rattle.state.specs.Fields as fields
+use Rattle.state.specs.Places.{mem_in}
 use Rattle.state.specs.declared.Sizes.{Sizes}
-use Rattle.rules.specs.Code.{mem_in, Whole, Decides}
+use Rattle.rules.specs.Code.{Whole}
 use Rattle.rules.specs.Facts.{WaitsHere}
 use Rattle.rules.specs.Walk.{Walking, walk_start, walk-more, walk-bad, Walked as Ended, walk_end}
-use Rattle.scan.specs.declared.Walked.{Walked}
-use Rattle.scan.specs.Asks.{LinkIs, most-at}
+use Rattle.rules.specs.Read.{field-most}
+use Rattle.scan.specs.declared.Line.{Line}
+use Rattle.scan.specs.declared.Line.TheVariants.{Run, Lock}
 
--- Who may stand in the run queue (tag 0), or in the queue of lock q (tag q + 1).
-pub record Member (m : Memory) (tag i : ℕ) : Type 0 where
-  pub ready : tag ≡ 0 → m fields.state_of i ≡ 2
-  pub waits : (q : ℕ) → tag ≡ suc q → WaitsHere m q i
-
-pub member-ready : {m : Memory} {tag i : ℕ} → tag ≡ 0 → m fields.state_of i ≡ 2 → Member m tag i
-member-ready e h = record { ready = λ _. h; waits = λ q d. absurd (omega arith) }
-
-pub member-waits : {m : Memory} {tag i : ℕ} → (tag ≡ 0 → ⊥) → WaitsHere m (tag - 1) i → Member m tag i
-member-waits {m} {tag} {i} n h =
-    record { ready = λ e. absurd (n e); waits = λ q d. subst (λ (k : ℕ). WaitsHere m k i) (omega arith) h }
-
-pub member-lock : {m : Memory} {tag i : ℕ} → (tag ≡ 0 → ⊥) → Member m tag i → WaitsHere m (tag - 1) i
-member-lock {m} {tag} {i} n h = h.waits (tag - 1) (omega arith)
-
--- What a walk asks.
-pub record LineAsks (z : Sizes) (s : List ℕ) (h : ℕ) : Type 0 where
-  pub whole : Whole z s
-  pub head : h ≤ z.processes
+-- Who may stand in a queue.
+abbrev pub Member : Memory → Line → ℕ → Type 0
+Member m Run i = m fields.state_of i ≡ 2
+Member m (Lock q) i = WaitsHere m q i
 
 -- The links from h to t spell a queue of at most so many that may stand in it.
-pub record Lined (n : ℕ) (m : Memory) (tag most h t : ℕ) : Type 0 where
+pub record Lined (n : ℕ) (m : Memory) (line : Line) (most h t : ℕ) : Type 0 where
   pub queue : Queue n (m fields.next) h t (walk n (m fields.next) h)
-  pub each : Each (Member m tag) (walk n (m fields.next) h)
+  pub each : Each (Member m line) (walk n (m fields.next) h)
   pub few : length (walk n (m fields.next) h) ≤ most
 
-pub record LineWalked (n : ℕ) (m : Memory) (tag most h t : ℕ) (r : Walked) : Type 0 where
-  pub decides : Decides r.ok (Lined n m tag most h t)
-  pub count : r.ok ≡ true → length (walk n (m fields.next) h) ≡ r.count
-
-line-no : {n : ℕ} {m : Memory} {tag most h t : ℕ} → (Lined n m tag most h t → ⊥) → LineWalked n m tag most h t (record { ok = false; count = 0 })
-line-no k = record { decides = k; count = λ e. absurd (false≢true e) }
+-- What a walk answers: how many stand in the queue, where it is one.
+abbrev pub LineWalked : ℕ → Memory → Line → ℕ → ℕ → ℕ → Option ℕ → Type 0
+LineWalked n m line most h t None = Lined n m line most h t → ⊥
+LineWalked n m line most h t (Some k) = Lined n m line most h t × (length (walk n (m fields.next) h) ≡ k)
 
 -- The walk so far.
-pub record Lining (n : ℕ) (m : Memory) (tag most h link last k : ℕ) : Type 0 where
-  pub walking : Walking (m fields.next) (Member m tag) h link last k
+pub record Lining (n : ℕ) (m : Memory) (line : Line) (most h link last k : ℕ) : Type 0 where
+  pub walking : Walking (m fields.next) (Member m line) h link last k
   pub range : link ≤ n
   pub few : k ≤ most
 
-pub line-start : {z : Sizes} {s : List ℕ} {tag most h : ℕ} → LineAsks z s h → Lining z.processes (mem_in z s) tag most h h 0 0
-line-start a = record { walking = walk_start; range = a.head; few = omega arith }
+pub line-start : {n : ℕ} {m : Memory} {line : Line} {most h : ℕ} → h ≤ n → Lining n m line most h h 0 0
+line-start l = record { walking = walk_start; range = l; few = omega arith }
 
 pub line-more
-    : {z : Sizes} {m : Memory} {tag most h link last k link' : ℕ}
-    → Lining z.processes m tag most h link last k
-    → (link ≡ 0 → ⊥)
+    : {n : ℕ} {m : Memory} {line : Line} {most h i last k link' : ℕ}
+    → Lining n m line most h (suc i) last k
     → (k ≡ most → ⊥)
-    → Member m tag (link - 1)
-    → LinkIs z (m fields.next (link - 1)) link'
-    → Lining z.processes m tag most h link' link (k + 1)
-line-more p n f h e = record { walking = walk-more p.walking n h e.value refl; range = e.range; few = omega (arith, p.few) }
+    → Member m line i
+    → link' ≡ m fields.next i
+    → link' ≤ n
+    → Lining n m line most h link' (suc i) (k + 1)
+line-more {m = m} {line = line} {i = i} p f h e r =
+    let d : suc i - 1 ≡ i = omega arith in
+    record {
+      walking = walk-more p.walking (λ q. absurd (omega arith)) (subst (Member m line) (sym d) h) (e ∙ ap (m fields.next) (sym d)) refl;
+      range = r;
+      few = omega (arith, p.few);
+    }
 
 -- each way out
 pub line-long
-    : {n : ℕ} {m : Memory} {tag most h link last k t : ℕ}
-    → Lining n m tag most h link last k
-    → (link ≡ 0 → ⊥)
+    : {n : ℕ} {m : Memory} {line : Line} {most h i last k t : ℕ}
+    → Lining n m line most h (suc i) last k
     → k ≡ most
-    → LineWalked n m tag most h t (record { ok = false; count = 0 })
-line-long {n} {m} {tag} {most} {h} {link} {last} {k} p ne e =
-    line-no
-    (λ o. ne
-    (prefix-end (m fields.next) h p.walking.seen (walk n (m fields.next) h) link p.walking.prefix o.queue.chain.links
-    (omega (arith, o.few, p.walking.count))))
+    → Lined n m line most h t
+    → ⊥
+line-long {n} {m} {line} {most} {h} {i} p e o =
+    let d : suc i ≡ 0 =
+    prefix-end (m fields.next) h p.walking.seen (walk n (m fields.next) h) (suc i) p.walking.prefix o.queue.chain.links
+    (omega (arith, o.few, p.walking.count))
+    in
+    omega arith
 
 pub line-bad
-    : {n : ℕ} {m : Memory} {tag most h link last k t : ℕ}
-    → Lining n m tag most h link last k
-    → (link ≡ 0 → ⊥)
-    → (Member m tag (link - 1) → ⊥)
-    → LineWalked n m tag most h t (record { ok = false; count = 0 })
-line-bad p ne b = line-no (λ o. walk-bad p.walking ne b o.queue.chain o.each)
+    : {n : ℕ} {m : Memory} {line : Line} {most h i last k t : ℕ}
+    → Lining n m line most h (suc i) last k
+    → (Member m line i → ⊥)
+    → Lined n m line most h t
+    → ⊥
+line-bad {m = m} {line = line} {i = i} p b o =
+    let d : suc i - 1 ≡ i = omega arith in
+    walk-bad p.walking (λ q. absurd (omega arith)) (λ h. b (subst (Member m line) d h)) o.queue.chain o.each
 
-ended
-    : {z : Sizes} {s : List ℕ} {tag most h link last k : ℕ}
-    → LineAsks z s h
-    → Lining z.processes (mem_in z s) tag most h link last k
-    → link ≡ 0
-    → Ended z.processes (mem_in z s fields.next) (Member (mem_in z s) tag) h last k
-ended a p e = walk_end p.walking e a.head (λ i. most-at a.whole 23 i)
+-- The end: the links ran out.
+pub line-ended
+    : {z : Sizes} {s : List ℕ} {line : Line} {most h last k : ℕ}
+    → ∥ Whole z s ∥₁
+    → h ≤ z.processes
+    → Lining z.processes (mem_in z s) line most h 0 last k
+    → Ended z.processes (mem_in z s fields.next) (Member (mem_in z s) line) h last k
+line-ended w l p = walk_end p.walking refl l (λ i. field-most w fields.next i)
 
 pub line-tail
-    : {z : Sizes} {s : List ℕ} {tag most h link last k t : ℕ}
-    → LineAsks z s h
-    → Lining z.processes (mem_in z s) tag most h link last k
-    → link ≡ 0
+    : {n : ℕ} {m : Memory} {line : Line} {most h last k t : ℕ}
+    → Ended n (m fields.next) (Member m line) h last k
     → (last ≡ t → ⊥)
-    → LineWalked z.processes (mem_in z s) tag most h t (record { ok = false; count = 0 })
-line-tail a p e n = line-no (λ o. n ((ended a p e).ends ∙ sym o.queue.ends))
+    → Lined n m line most h t
+    → ⊥
+line-tail w d o = d (w.ends ∙ sym o.queue.ends)
 
 pub line-yes
-    : {z : Sizes} {s : List ℕ} {tag most h link last k t : ℕ}
-    → LineAsks z s h
-    → Lining z.processes (mem_in z s) tag most h link last k
-    → link ≡ 0
+    : {n : ℕ} {m : Memory} {line : Line} {most h last k t : ℕ}
+    → Ended n (m fields.next) (Member m line) h last k
+    → k ≤ most
     → last ≡ t
-    → LineWalked z.processes (mem_in z s) tag most h t (record { ok = true; count = k })
-line-yes a p e d =
-    let w = ended a p e in
-    record {
-      decides = record {
-        queue = record { chain = w.chain; ends = sym d ∙ w.ends };
-        each = w.each;
-        few = omega (arith, w.count, p.few);
-      };
-      count = λ _. w.count;
-    }
+    → LineWalked n m line most h t (Some k)
+line-yes w f d = (
+  record {
+    queue = record { chain = w.chain; ends = sym d ∙ w.ends };
+    each = w.each;
+    few = omega (arith, w.count);
+  },
+  w.count,
+)

@@ -1,16 +1,13 @@
 -- All locks, with as many waiters as there are.
-use Rattle.std.specs.Prelude.{◌≡◌, refl, true, false, not, ℕ, zero, suc, ◌+◌, ◌-◌, ◌≤◌, ◌<◌, length}
-use Rattle.std.proofs.Common.{sym, subst, ⊎_elim, not-suc-le-zero, le_of_suc-le-suc, eq-or-lt_of_le, add-one, arith, below_more}
-use Rattle.std.proofs.lemmas.Bool.{not-false}
+use Rattle.std.specs.Prelude.{◌≡◌, refl, Bool, IsTrue, ◌↔◌, Some, None, ℕ, zero, suc, ◌+◌, ◌-◌, ◌≤◌, ◌<◌, length}
+use Rattle.std.proofs.Common.{subst, ⊎_elim, not-suc-le-zero, le_of_suc-le-suc, eq-or-lt_of_le, add-one, arith, below_more}
 use Rattle.machine.specs.Machine as machine
 use Rattle.layout.specs.Memory.{Memory}
 use Rattle.state.specs.Abs.{waiter_list}
 use Rattle.state.specs.Places.{sizes_in}
 use Rattle.state.specs.declared.Sizes.{Sizes}
 use Rattle.rules.specs.Facts.{sum_below, LockOk}
-use Rattle.scan.specs.declared.Walked.{Walked}
-use Rattle.scan.specs.Queues.{LockFits, LockWalked}
-use Rattle.rules.specs.Loop.{passed, failed}
+use Rattle.scan.specs.Queues.{LockWalked}
 
 abbrev pub waiters : machine.Sizes → Memory → ℕ → ℕ
 waiters z m q = length (waiter_list z m q)
@@ -44,51 +41,40 @@ sum_more : (f : ℕ → ℕ) (q : ℕ) → sum_below (suc q) f ≡ sum_below q f
 unfolding sum_below
 sum_more f q = refl
 
-pub locking_fits : {z : Sizes} {m : Memory} {q left : ℕ} {w : Walked} → LockWalked z m q left w → not w.ok ≡ false → w.count ≤ left
-locking_fits {z} {m} {q} {left} {w} k e =
-    let l : LockFits z m q left = passed w.ok k.decides e in
-    omega (arith, l.few, k.count (not-false w.ok e))
-
 pub locking_more
-    : {z : Sizes} {m : Memory} {total left q : ℕ} {w : Walked}
+    : {z : Sizes} {m : Memory} {total left q count : ℕ}
     → Locking z m total left q
     → q < z.locks
-    → LockWalked z m q left w
-    → not w.ok ≡ false
-    → Locking z m total (left - w.count) (q + 1)
-locking_more {z} {m} {total} {left} {q} {w} p h k e =
-    let l : LockFits z m q left = passed w.ok k.decides e in
+    → LockWalked z m q left (Some count)
+    → Locking z m total (left - count) (q + 1)
+locking_more {z} {m} {total} {left} {q} {count} p h k =
     record {
       within = omega arith;
-      each = below_more (LockOk (sizes_in z) m) q p.each l.lock;
-      sum = rw (add-one q) (omega (arith, p.sum, sum_more (waiters (sizes_in z) m) q, l.few, k.count (not-false w.ok e)));
+      each = below_more (LockOk (sizes_in z) m) q p.each k.0.lock;
+      sum = rw (add-one q) (omega (arith, p.sum, sum_more (waiters (sizes_in z) m) q, k.0.few, k.1));
     }
 
 pub locking_bad
-    : {z : Sizes} {m : Memory} {total left q : ℕ} {w : Walked}
+    : {z : Sizes} {m : Memory} {total left q : ℕ}
     → Locking z m total left q
     → q < z.locks
-    → LockWalked z m q left w
-    → not w.ok ≡ true
+    → LockWalked z m q left None
     → LocksOk (sizes_in z) m total
     → ⊥
-locking_bad {z} {m} {total} {left} {q} {w} p h k e o =
-    failed w.ok k.decides e
+locking_bad {z} {m} {total} {left} {q} p h k o =
+    k
     (record {
       lock = o.each q h;
       few = omega (arith, p.sum, o.sum, sum_more (waiters (sizes_in z) m) q, sum_rises (waiters (sizes_in z) m) (suc q) z.locks h);
     })
 
-pub locking_yes : {z : Sizes} {m : Memory} {total left q : ℕ} → Locking z m total left q → z.locks ≤ q → left ≡ 0 → LocksOk (sizes_in z) m total
-locking_yes {z} {m} {total} {left} {q} p h e =
-    let d : q ≡ z.locks = omega (arith, p.within) in
-    record {
-      each = λ j l. p.each j (omega arith);
-      sum = subst (λ (x : ℕ). sum_below x (waiters (sizes_in z) m) ≡ total) d (omega (arith, p.sum));
-    }
-
-pub locking_no : {z : Sizes} {m : Memory} {total left q : ℕ} → Locking z m total left q → z.locks ≤ q → (left ≡ 0 → ⊥) → LocksOk (sizes_in z) m total → ⊥
-locking_no {z} {m} {total} {left} {q} p h n o =
-    let d : q ≡ z.locks = omega (arith, p.within) in
-    let e : sum_below q (waiters (sizes_in z) m) ≡ total = subst (λ (x : ℕ). sum_below x (waiters (sizes_in z) m) ≡ total) (sym d) o.sum in
-    n (omega (arith, p.sum))
+-- All locks were met: they are right, and so many wait in all, exactly where none is left.
+pub locking_end
+    : {z : Sizes} {m : Memory} {total left q : ℕ} {b : Bool}
+    → Locking z m total left q
+    → z.locks ≤ q
+    → IsTrue b ↔ (left ≡ 0)
+    → IsTrue b ↔ LocksOk (sizes_in z) m total
+locking_end {z} {m} {total} {left} {q} p l d =
+    let w : Locking z m total left z.locks = subst (λ (x : ℕ). Locking z m total left x) (omega (arith, p.within)) p in
+    (λ t. let e : left ≡ 0 = d.0 t in record { each = w.each; sum = omega (arith, w.sum) }, λ o. d.1 (omega (arith, w.sum, o.sum)))

@@ -1,55 +1,52 @@
 -- The run queue, and a lock's queue: what the walk of it decides.
-use Rattle.std.specs.Prelude.{◌≡◌, refl, true, false, ℕ, suc, ◌+◌, ◌≤◌, length}
-use Rattle.std.proofs.Common.{subst, add-one, arith}
-use Rattle.std.proofs.lemmas.Bool.{false≢true}
+use Rattle.std.specs.Prelude.{◌≡◌, Option, Some, None, ℕ, ◌≤◌, length}
+use Rattle.std.proofs.Common.{subst}
 use Rattle.layout.specs.Memory.{Memory}
-use Rattle.chain.specs.Lists.{all_map, distinct-fits}
+use Rattle.chain.specs.Lists.{distinct-fits}
 use Rattle.chain.specs.Links.{walk}
 use Rattle.state.specs.Fields as fields
 use Rattle.state.specs.Abs.{run_list, waiter_list}
 use Rattle.state.specs.Places.{sizes_in}
 use Rattle.state.specs.declared.Sizes.{Sizes}
-use Rattle.rules.specs.Code.{Decides}
-use Rattle.rules.specs.Facts.{RunOk, WaitsHere, LockOk}
-use Rattle.scan.specs.declared.Walked.{Walked}
-use Rattle.scan.specs.Asks.{LinkIs}
-use Rattle.scan.specs.Lines.{member-ready, member-waits, Lined, LineWalked}
-use Rattle.rules.specs.Loop.{decides_as}
+use Rattle.rules.specs.Facts.{RunOk, LockOk}
+use Rattle.scan.specs.declared.Line.TheVariants.{Run, Lock}
+use Rattle.scan.specs.Lines.{Lined, LineWalked}
 
--- The run queue.
-pub record RunWalked (z : Sizes) (m : Memory) (r : Walked) : Type 0 where
-  pub decides : Decides r.ok (RunOk (sizes_in z) m)
-  pub count : r.ok ≡ true → length (run_list (sizes_in z) m) ≡ r.count
+-- The run queue: how many stand in it, where it is right.
+abbrev pub RunWalked : Sizes → Memory → Option ℕ → Type 0
+RunWalked z m None = RunOk (sizes_in z) m → ⊥
+RunWalked z m (Some k) = RunOk (sizes_in z) m × (length (run_list (sizes_in z) m) ≡ k)
 
-lined_run : (z : Sizes) (m : Memory) → Lined z.processes m 0 z.processes (m fields.run_head 0) (m fields.run_tail 0) → RunOk (sizes_in z) m
+lined_run : (z : Sizes) (m : Memory) → Lined z.processes m Run z.processes (m fields.run_head 0) (m fields.run_tail 0) → RunOk (sizes_in z) m
 unfolding run_list
-lined_run z m l =
-    record { queue = l.queue; ready = all_map (λ i h. h.ready refl) (walk z.processes (m fields.next) (m fields.run_head 0)) l.each }
+lined_run z m l = record { queue = l.queue; ready = l.each }
 
-run_lined : (z : Sizes) (m : Memory) → RunOk (sizes_in z) m → Lined z.processes m 0 z.processes (m fields.run_head 0) (m fields.run_tail 0)
+run_lined : (z : Sizes) (m : Memory) → RunOk (sizes_in z) m → Lined z.processes m Run z.processes (m fields.run_head 0) (m fields.run_tail 0)
 unfolding run_list
 run_lined z m r =
     record {
       queue = r.queue;
-      each = all_map (λ i h. member-ready refl h) (walk z.processes (m fields.next) (m fields.run_head 0)) r.ready;
+      each = r.ready;
       few =
           distinct-fits z.processes (walk z.processes (m fields.next) (m fields.run_head 0)) r.queue.chain.distinct
           r.queue.chain.below;
     }
 
 pub run_walked
-    : {z : Sizes} {m : Memory} {h t : ℕ} {r : Walked}
-    → LinkIs z (m fields.run_head 0) h
+    : (z : Sizes) (m : Memory) (h t : ℕ) (r : Option ℕ)
+    → h ≡ m fields.run_head 0
     → t ≡ m fields.run_tail 0
-    → LineWalked z.processes m 0 z.processes h t r
+    → LineWalked z.processes m Run z.processes h t r
     → RunWalked z m r
 unfolding run_list
-run_walked {z} {m} {h} {t} {r} a b w =
-    let d : LineWalked z.processes m 0 z.processes (m fields.run_head 0) (m fields.run_tail 0) r =
-    subst (λ (x : ℕ). LineWalked z.processes m 0 z.processes (m fields.run_head 0) x r) b
-    (subst (λ (x : ℕ). LineWalked z.processes m 0 z.processes x t r) a.value w)
-    in
-    record { decides = decides_as r.ok (lined_run z m) (run_lined z m) d.decides; count = d.count }
+run_walked z m h t r a b w =
+    go r
+    (subst (λ (x : ℕ). LineWalked z.processes m Run z.processes (m fields.run_head 0) x r) b
+    (subst (λ (x : ℕ). LineWalked z.processes m Run z.processes x t r) a w))
+  where
+    go : (r : Option ℕ) → LineWalked z.processes m Run z.processes (m fields.run_head 0) (m fields.run_tail 0) r → RunWalked z m r
+    go None w = λ o. w (run_lined z m o)
+    go (Some k) w = (lined_run z m w.0, w.1)
 
 -- A lock: with waiters it is held; and it is right with at most so many.
 pub record HeldOk (m : Memory) (q : ℕ) : Type 0 where
@@ -59,55 +56,42 @@ pub record LockFits (z : Sizes) (m : Memory) (q left : ℕ) : Type 0 where
   pub lock : LockOk (sizes_in z) m q
   pub few : length (waiter_list (sizes_in z) m q) ≤ left
 
-pub record LockWalked (z : Sizes) (m : Memory) (q left : ℕ) (r : Walked) : Type 0 where
-  pub decides : Decides r.ok (LockFits z m q left)
-  pub count : r.ok ≡ true → length (waiter_list (sizes_in z) m q) ≡ r.count
+-- How many wait for it, where it is.
+abbrev pub LockWalked : Sizes → Memory → ℕ → ℕ → Option ℕ → Type 0
+LockWalked z m q left None = LockFits z m q left → ⊥
+LockWalked z m q left (Some k) = LockFits z m q left × (length (waiter_list (sizes_in z) m q) ≡ k)
 
-pub lock-unheld : {z : Sizes} {m : Memory} {q left : ℕ} → (HeldOk m q → ⊥) → LockWalked z m q left (record { ok = false; count = 0 })
-lock-unheld k = record { decides = λ l. k (record { held = l.lock.held }); count = λ e. absurd (false≢true e) }
+pub lock-unheld : {z : Sizes} {m : Memory} {q left : ℕ} → (HeldOk m q → ⊥) → LockFits z m q left → ⊥
+lock-unheld k l = k (record { held = l.lock.held })
 
 lined_lock
     : (z : Sizes) (m : Memory) (q left : ℕ)
     → HeldOk m q
-    → Lined z.processes m (suc q) left (m fields.lock_head q) (m fields.lock_tail q)
+    → Lined z.processes m (Lock q) left (m fields.lock_head q) (m fields.lock_tail q)
     → LockFits z m q left
 unfolding waiter_list
-lined_lock z m q left h l =
-    record {
-      lock = record {
-        queue = l.queue;
-        waiting = all_map (λ i k. k.waits q refl) (walk z.processes (m fields.next) (m fields.lock_head q)) l.each;
-        held = h.held;
-      };
-      few = l.few;
-    }
+lined_lock z m q left h l = record { lock = record { queue = l.queue; waiting = l.each; held = h.held }; few = l.few }
 
 lock_lined
     : (z : Sizes) (m : Memory) (q left : ℕ)
     → LockFits z m q left
-    → Lined z.processes m (suc q) left (m fields.lock_head q) (m fields.lock_tail q)
+    → Lined z.processes m (Lock q) left (m fields.lock_head q) (m fields.lock_tail q)
 unfolding waiter_list
-lock_lined z m q left l =
-    record {
-      queue = l.lock.queue;
-      each =
-          all_map (λ i k. member-waits (λ e. omega arith) (subst (λ (x : ℕ). WaitsHere m x i) (omega arith) k))
-          (walk z.processes (m fields.next) (m fields.lock_head q)) l.lock.waiting;
-      few = l.few;
-    }
+lock_lined z m q left l = record { queue = l.lock.queue; each = l.lock.waiting; few = l.few }
 
 pub lock_walked
-    : {z : Sizes} {m : Memory} {q left h t : ℕ} {r : Walked}
+    : (z : Sizes) (m : Memory) (q left h t : ℕ) (r : Option ℕ)
     → HeldOk m q
-    → LinkIs z (m fields.lock_head q) h
+    → h ≡ m fields.lock_head q
     → t ≡ m fields.lock_tail q
-    → LineWalked z.processes m (q + 1) left h t r
+    → LineWalked z.processes m (Lock q) left h t r
     → LockWalked z m q left r
 unfolding waiter_list
-lock_walked {z} {m} {q} {left} {h} {t} {r} k a b w =
-    let d : LineWalked z.processes m (suc q) left (m fields.lock_head q) (m fields.lock_tail q) r =
-    subst (λ (x : ℕ). LineWalked z.processes m (suc q) left (m fields.lock_head q) x r) b
-    (subst (λ (x : ℕ). LineWalked z.processes m (suc q) left x t r) a.value
-    (subst (λ (x : ℕ). LineWalked z.processes m x left h t r) (add-one q) w))
-    in
-    record { decides = decides_as r.ok (lined_lock z m q left k) (lock_lined z m q left) d.decides; count = d.count }
+lock_walked z m q left h t r k a b w =
+    go r
+    (subst (λ (x : ℕ). LineWalked z.processes m (Lock q) left (m fields.lock_head q) x r) b
+    (subst (λ (x : ℕ). LineWalked z.processes m (Lock q) left x t r) a w))
+  where
+    go : (r : Option ℕ) → LineWalked z.processes m (Lock q) left (m fields.lock_head q) (m fields.lock_tail q) r → LockWalked z m q left r
+    go None w = λ o. w (lock_lined z m q left o)
+    go (Some c) w = (lined_lock z m q left k w.0, w.1)

@@ -6,3 +6,6 @@ pub mod WellFormed
 pub mod Blanks
 pub mod Places
 pub mod Shown
+pub mod Regions
+pub mod Lent
+pub mod Sets

@@ -132,7 +132,7 @@ pub record Rep (s : List ℕ) : Type 0 where
   pub index : Index (sizes_of s) (memory_of s)
   pub idle : Idle (memory_of s)
 
--- A state is well formed: its bytes represent their machine, and that keeps 01's rules.
+-- A state is well formed: its bytes represent their machine, and that keeps the rules of docs/MACHINE.md, "Well-formed states".
 pub record WellFormed (s : List ℕ) : Type 0 where
   pub rep : Rep s
   pub good : Good (abs s)

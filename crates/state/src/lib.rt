@@ -1,15 +1,24 @@
 // The lent state: where its fields lie, and how they are read and written.
 #![tactic(auto)]
 
+mod access;
+pub mod field;
+mod lent;
+
 ghost use Rattle.std.specs.Prelude.{◌≡◌, ◌+◌, ◌*◌, ◌<◌, ◌≤◌};
 ghost use Rattle.layout.specs.Table.{slot, stride};
 ghost use Rattle.state.specs.Fields.{layout1};
 ghost use Rattle.state.specs.Places.{start_in, place_in, total_in, cell_in, ReachIn, PutIn};
 
+pub use lent::{State, View};
+use memory::Number;
+
 // Numbers of records, and links to them.
 pub type Index = u16;
 // How many processes, or timers.
 pub type Count = u16;
+// A link to a record.
+pub type Link = Option<Index>;
 
 // How many records each region has, and the clock's frequency.
 #[derive(Clone, Copy)]
@@ -258,7 +267,7 @@ pub fn get8(s: &[u8], z: Sizes, region: u8, inner: u8, i: Index) -> u8
     requires { ReachIn z s.now (slot region inner 1) i }
     ensures { result ≡ cell_in z s.now (slot region inner 1) i }
 {
-    memory::load8(s, place_of(z, region, inner, i))
+    u8::load(s, place_of(z, region, inner, i))
 }
 
 // A field of 16 bits.
@@ -266,7 +275,7 @@ pub fn get16(s: &[u8], z: Sizes, region: u8, inner: u8, i: Index) -> u16
     requires { ReachIn z s.now (slot region inner 2) i }
     ensures { result ≡ cell_in z s.now (slot region inner 2) i }
 {
-    memory::load16(s, place_of(z, region, inner, i))
+    u16::load(s, place_of(z, region, inner, i))
 }
 
 // A field of 32 bits.
@@ -274,7 +283,7 @@ pub fn get32(s: &[u8], z: Sizes, region: u8, inner: u8, i: Index) -> u32
     requires { ReachIn z s.now (slot region inner 4) i }
     ensures { result ≡ cell_in z s.now (slot region inner 4) i }
 {
-    memory::load32(s, place_of(z, region, inner, i))
+    u32::load(s, place_of(z, region, inner, i))
 }
 
 // A field of 64 bits.
@@ -282,7 +291,7 @@ pub fn get64(s: &[u8], z: Sizes, region: u8, inner: u8, i: Index) -> u64
     requires { ReachIn z s.now (slot region inner 8) i }
     ensures { result ≡ cell_in z s.now (slot region inner 8) i }
 {
-    memory::load64(s, place_of(z, region, inner, i))
+    u64::load(s, place_of(z, region, inner, i))
 }
 
 // Stores a field of 8 bits.
@@ -290,7 +299,7 @@ pub fn set8(s: &mut [u8], z: Sizes, region: u8, inner: u8, i: Index, v: u8)
     requires { ReachIn z s.old (slot region inner 1) i }
     ensures { PutIn z s.old s.new (slot region inner 1) i v }
 {
-    memory::store8(s, place_of(z, region, inner, i), v);
+    v.store(s, place_of(z, region, inner, i));
 }
 
 // Stores a field of 16 bits.
@@ -298,7 +307,7 @@ pub fn set16(s: &mut [u8], z: Sizes, region: u8, inner: u8, i: Index, v: u16)
     requires { ReachIn z s.old (slot region inner 2) i }
     ensures { PutIn z s.old s.new (slot region inner 2) i v }
 {
-    memory::store16(s, place_of(z, region, inner, i), v);
+    v.store(s, place_of(z, region, inner, i));
 }
 
 // Stores a field of 32 bits.
@@ -306,7 +315,7 @@ pub fn set32(s: &mut [u8], z: Sizes, region: u8, inner: u8, i: Index, v: u32)
     requires { ReachIn z s.old (slot region inner 4) i }
     ensures { PutIn z s.old s.new (slot region inner 4) i v }
 {
-    memory::store32(s, place_of(z, region, inner, i), v);
+    v.store(s, place_of(z, region, inner, i));
 }
 
 // Stores a field of 64 bits.
@@ -314,7 +323,7 @@ pub fn set64(s: &mut [u8], z: Sizes, region: u8, inner: u8, i: Index, v: u64)
     requires { ReachIn z s.old (slot region inner 8) i }
     ensures { PutIn z s.old s.new (slot region inner 8) i v }
 {
-    memory::store64(s, place_of(z, region, inner, i), v);
+    v.store(s, place_of(z, region, inner, i));
 }
 
 // How many bytes a state of these sizes takes.

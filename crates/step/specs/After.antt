@@ -1,5 +1,5 @@
 -- What a step leaves of the bytes of a well-formed state.
-use Rattle.std.specs.Prelude.{if◌then◌else◌, ◌≡◌, refl, Bool, true, false, ◌&&◌, List, [], ◌∷◌, ℕ, suc, eqb, length, drop}
+use Rattle.std.specs.Prelude.{if◌then◌else◌, ◌≡◌, refl, Bool, true, false, ◌&&◌, List, [], ◌∷◌, ℕ, suc, eqb, length, drop, Result}
 use Rattle.std.proofs.Common.{sym, ap, subst, subst₂, ◌∙◌, arith}
 use Rattle.std.proofs.Math.Option.{Option, none, some}
 use Rattle.machine.specs.Machine as machine
@@ -25,6 +25,7 @@ use Rattle.holds.specs.Use.{used_in}
 use Rattle.holds.specs.Leftover.{cleared}
 use Rattle.holds.specs.Touched.{Spares, spares-length, spares-behind, spares-unused, spares-idle}
 use Rattle.outcome.specs.declared.Reply.{Reply}
+use Rattle.outcome.specs.declared.Refusal.{Refusal}
 use Rattle.outcome.specs.Stepped.{Well, left_bytes}
 use Rattle.proc.specs.Taken.{Taken, left_in, given}
 
@@ -107,7 +108,7 @@ stays_in {z} {s} {s'} t f i = go (cleared f) refl
 
 -- What a step on a well-formed state leaves.
 pub well-after
-    : {z : Sizes} {s s' m m' : List ℕ} {x : Option Step} {r : Reply} → WellIn z s → Taken z s s' x m m' r → WellIn z s'
+    : {z : Sizes} {s s' m m' : List ℕ} {x : Option Step} {r : Result Reply Refusal} → WellIn z s → Taken z s s' x m m' r → WellIn z s'
 well-after {z} {s} {s'} {m} {x = x} w t =
     record {
       well = record { holds = t.holds; good = subst Good (sym t.machine) (good-outcome (machine_in z s) x (length m) w.well.good) };
@@ -115,7 +116,7 @@ well-after {z} {s} {s'} {m} {x = x} w t =
     }
 
 pub after_of
-    : {z : Sizes} {s s' m m' : List ℕ} {x : Option Step} {r : Reply}
+    : {z : Sizes} {s s' m m' : List ℕ} {x : Option Step} {r : Result Reply Refusal}
     → WellIn z s
     → Taken z s s' x m m' r
     → After s s' x (outcome_of (abs s) x (length m))

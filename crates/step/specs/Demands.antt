@@ -1,4 +1,4 @@
--- Demands 1 and 3, said of the exported step and the bytes that are lent to it.
+-- docs/MACHINE.md, "Promises", 1 and 3, said of the exported step and the bytes that are lent to it.
 use Rattle.std.specs.Prelude.{if◌then◌else◌, ◌≡◌, refl, Bool, true, false, List, [], ◌∷◌, map, ℕ, ltb, length}
 use Rattle.std.proofs.Common.{sym, ap, subst, ◌∙◌, arith}
 use Rattle.std.proofs.lemmas.Bool.{false≢true}
@@ -27,7 +27,7 @@ use Rattle.step.specs.Words.{number_of, answer_number, Lent, words_after}
 use Rattle.step.specs.After.{left_of}
 use Rattle.step.specs.Exported.{outcome, message_after, Answered, Exported, formed, malformed}
 
--- Demand 1: a step, handed in with whatever bytes, comes back with an answer or with one number of the table; a refused one changes
+-- The first: a step, handed in with whatever bytes, comes back with an answer or with one number of the table; a refused one changes
 -- nothing lent to it, save the one pid that a failed page copy uses up.
 pub data Demand1 (s s' b m m' : List ℕ) (w w' : Lent) (n : ℕ) : Type 0 where
   answers : (a : Answer) → n ≡ number_of (answer a) → Demand1 s s' b m m' w w' n
@@ -162,7 +162,7 @@ never-one s (x ∷ xs) (y ∷ ys) s' f (e, c) =
       never-one y.state xs ys s' a.state.well_formed c,
     )
 
--- Demand 3 and more, of a course from what `make` wrote: the answers, with their words and messages, are those of the history, number 1 never
+-- The third and more, of a course from what `make` wrote: the answers, with their words and messages, are those of the history, number 1 never
 -- comes, and the lent state holds each living process in the place that the history tells. The claim about the list is `Demand3`, whose parts speak
 -- of every list, so of every point of this one.
 pub record Demanded (p r q k c hz : ℕ) (xs : List Handed) (ys : List Back) (s' : List ℕ) : Type 0 where

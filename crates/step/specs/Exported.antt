@@ -1,5 +1,5 @@
 -- What the exported step ensures, for any bytes.
-use Rattle.std.specs.Prelude.{◌≡◌, refl, Bool, true, false, List, [], ◌∷◌, ◌++◌, ℕ, ◌≤◌, ◌<◌, eqb, length, drop}
+use Rattle.std.specs.Prelude.{◌≡◌, refl, Bool, true, false, List, [], ◌∷◌, ◌++◌, ℕ, ◌≤◌, ◌<◌, eqb, length, drop, Result, Ok, Err}
 use Rattle.std.proofs.Common.{sym, ap, subst, ◌∙◌, arith, eqb-true, lit<}
 use Rattle.std.proofs.lemmas.Bool.{false≢true}
 use Rattle.std.proofs.Math.Option.{Option}
@@ -19,8 +19,10 @@ use Rattle.kept.specs.Total.{numbers, Comes, done, with_number, total-outcome}
 use Rattle.rules.specs.Code.{Decides}
 use Rattle.verify.specs.Ways.{SizesRead, well-long}
 use Rattle.outcome.specs.declared.Reply.{Reply}
-use Rattle.outcome.specs.declared.Reply.TheVariants.{Pid, Run, RunChild, Done, Asleep, Yes, No, Fired, Exit, Child, Idle, End, Refused}
-use Rattle.outcome.specs.Means.{means, told}
+use Rattle.outcome.specs.declared.Reply.TheVariants.{Pid, Run, RunChild, Done, Asleep, Yes, No, Fired, Exit, Child, Idle, End}
+use Rattle.outcome.specs.declared.Refusal.{Refusal}
+use Rattle.outcome.specs.declared.Refusal.TheVariants.{NotWellFormed}
+use Rattle.outcome.specs.Means.{number, means, told}
 use Rattle.outcome.specs.Stepped.{Well}
 use Rattle.outcome.specs.Length.{length_of}
 use Rattle.proc.specs.Taken.{Taken, status_in, given}
@@ -56,23 +58,23 @@ pub data Exported (s s' b m m' : List ℕ) (w w' : Lent) (n : ℕ) : Type 0 wher
   malformed : (WellFormed s → ⊥) → Malformed s s' m m' w w' n → Exported s s' b m m' w w' n
 
 -- The same before the reply is put in words.
-pub record Replies (s s' b m m' : List ℕ) (r : Reply) : Type 0 where
+pub record Replies (s s' b m m' : List ℕ) (r : Result Reply Refusal) : Type 0 where
   pub reply : means r m' (status_in (decode b)) ≡ (outcome s b m).reply
   pub long : length_of r ≡ length (told (outcome s b m).reply)
   pub message : m' ≡ message_after (outcome s b m).reply m
   pub state : After s s' (decode b) (outcome s b m)
 
-pub record Refuses (s s' m m' : List ℕ) (r : Reply) : Type 0 where
-  pub reply : r ≡ Refused 1
+pub record Refuses (s s' m m' : List ℕ) (r : Result Reply Refusal) : Type 0 where
+  pub reply : r ≡ Err NotWellFormed
   pub message : m' ≡ m
   pub state : s' ≡ s
 
-pub data Replied (s s' b m m' : List ℕ) (r : Reply) : Type 0 where
+pub data Replied (s s' b m m' : List ℕ) (r : Result Reply Refusal) : Type 0 where
   replies : WellFormed s → Replies s s' b m m' r → Replied s s' b m m' r
   refuses : (WellFormed s → ⊥) → Refuses s s' m m' r → Replied s s' b m m' r
 
 -- From the check: it said no.
-pub replied_no : {s b m : List ℕ} {c : Bool} → c ≡ false → Decides c (WellFormed s) → Replied s s b m m (Refused 1)
+pub replied_no : {s b m : List ℕ} {c : Bool} → c ≡ false → Decides c (WellFormed s) → Replied s s b m m (Err NotWellFormed)
 replied_no {s} e d = refuses (subst (λ (x : Bool). Decides x (WellFormed s)) e d) (record { reply = refl; message = refl; state = refl })
 
 -- It said yes.
@@ -89,7 +91,7 @@ pub checked-well : {z : Sizes} {s : List ℕ} {c : Bool} → c ≡ true → Deci
 checked-well e d r = (checked_in e d r).well
 
 pub replies_of
-    : {z : Sizes} {s s' b m m' : List ℕ} {r : Reply} → WellIn z s → Taken z s s' (decode b) m m' r → Replies s s' b m m' r
+    : {z : Sizes} {s s' b m m' : List ℕ} {r : Result Reply Refusal} → WellIn z s → Taken z s s' (decode b) m m' r → Replies s s' b m m' r
 unfolding message_after
 replies_of {z} {s} {s'} {b} {m} {m'} {r} w t =
     let o : given z s (decode b) m ≡ outcome s b m = sym (outcome_of_lem (decode b) (length m) w.well) in
@@ -101,7 +103,7 @@ replies_of {z} {s} {s'} {b} {m} {m'} {r} w t =
     }
 
 pub replied_taken
-    : {z : Sizes} {s s' b m m' : List ℕ} {c : Bool} {r : Reply}
+    : {z : Sizes} {s s' b m m' : List ℕ} {c : Bool} {r : Result Reply Refusal}
     → c ≡ true
     → Decides c (WellFormed s)
     → SizesRead s z
@@ -110,21 +112,21 @@ pub replied_taken
 replied_taken e d z t = replies (checked e d) (replies_of (checked_in e d z) t)
 
 -- The words of a reply: its number, and where it is an answer its numbers and the length of its message.
-pub number_of_lem : (r : Reply) (m st : List ℕ) → (words_in r).number ≡ number_of (means r m st)
+pub number_of_lem : (r : Result Reply Refusal) (m st : List ℕ) → (words_in r).number ≡ number_of (means r m st)
 unfolding number_of answer_number means
-number_of_lem (Pid n) m st = refl
-number_of_lem (Run n) m st = refl
-number_of_lem (RunChild n c l) m st = refl
-number_of_lem Done m st = refl
-number_of_lem Asleep m st = refl
-number_of_lem Yes m st = refl
-number_of_lem No m st = refl
-number_of_lem (Fired f k) m st = refl
-number_of_lem (Exit n) m st = refl
-number_of_lem (Child n l) m st = refl
-number_of_lem Idle m st = refl
-number_of_lem End m st = refl
-number_of_lem (Refused n) m st = refl
+number_of_lem (Ok (Pid n)) m st = refl
+number_of_lem (Ok (Run n)) m st = refl
+number_of_lem (Ok (RunChild n c l)) m st = refl
+number_of_lem (Ok Done) m st = refl
+number_of_lem (Ok Asleep) m st = refl
+number_of_lem (Ok Yes) m st = refl
+number_of_lem (Ok No) m st = refl
+number_of_lem (Ok (Fired f k)) m st = refl
+number_of_lem (Ok (Exit n)) m st = refl
+number_of_lem (Ok (Child n l)) m st = refl
+number_of_lem (Ok Idle) m st = refl
+number_of_lem (Ok End) m st = refl
+number_of_lem (Err e) m st = refl
 
 -- A number of the table is below every answer's.
 low : (n : ℕ) (xs : List ℕ) → Each (λ x. x < 32) xs → elem n xs ≡ true → n < 32
@@ -155,53 +157,53 @@ refused-low m x k n e = go (total-outcome m x k)
 
 -- Words from 32 on are an answer's, and below it a refusal leaves what is lent.
 words-answer
-    : (r : Reply) (m st : List ℕ) (w : Lent)
+    : (r : Result Reply Refusal) (m st : List ℕ) (w : Lent)
     → 32 ≤ (words_in r).number
     → ((n : ℕ) → means r m st ≡ refused n → n < 32)
     → length_of r ≡ length (told (means r m st))
     → lent (words_in r).first (words_in r).second (words_in r).length ≡ words_after (means r m st) w
 unfolding means words_after first_of second_of told
-words-answer (Pid n) m st w h k l = refl
-words-answer (Run n) m st w h k l = refl
-words-answer (RunChild n c i) m st w h k l = ap (λ (j : ℕ). lent n c j) l
-words-answer Done m st w h k l = refl
-words-answer Asleep m st w h k l = refl
-words-answer Yes m st w h k l = refl
-words-answer No m st w h k l = refl
-words-answer (Fired f g) m st w h k l = refl
-words-answer (Exit n) m st w h k l = refl
-words-answer (Child n i) m st w h k l = ap (λ (j : ℕ). lent n 0 j) l
-words-answer Idle m st w h k l = refl
-words-answer End m st w h k l = refl
-words-answer (Refused n) m st w h k l = absurd (omega (arith, h, k n refl))
+words-answer (Ok (Pid n)) m st w h k l = refl
+words-answer (Ok (Run n)) m st w h k l = refl
+words-answer (Ok (RunChild n c i)) m st w h k l = ap (λ (j : ℕ). lent n c j) l
+words-answer (Ok Done) m st w h k l = refl
+words-answer (Ok Asleep) m st w h k l = refl
+words-answer (Ok Yes) m st w h k l = refl
+words-answer (Ok No) m st w h k l = refl
+words-answer (Ok (Fired f g)) m st w h k l = refl
+words-answer (Ok (Exit n)) m st w h k l = refl
+words-answer (Ok (Child n i)) m st w h k l = ap (λ (j : ℕ). lent n 0 j) l
+words-answer (Ok Idle) m st w h k l = refl
+words-answer (Ok End) m st w h k l = refl
+words-answer (Err e) m st w h k l = absurd (omega (arith, h, k (number e) refl))
 
-words-refused : (r : Reply) (m st : List ℕ) (w : Lent) → (words_in r).number < 32 → w ≡ words_after (means r m st) w
+words-refused : (r : Result Reply Refusal) (m st : List ℕ) (w : Lent) → (words_in r).number < 32 → w ≡ words_after (means r m st) w
 unfolding means words_after
-words-refused (Pid n) m st w h = absurd (omega (arith, h))
-words-refused (Run n) m st w h = absurd (omega (arith, h))
-words-refused (RunChild n c i) m st w h = absurd (omega (arith, h))
-words-refused Done m st w h = absurd (omega (arith, h))
-words-refused Asleep m st w h = absurd (omega (arith, h))
-words-refused Yes m st w h = absurd (omega (arith, h))
-words-refused No m st w h = absurd (omega (arith, h))
-words-refused (Fired f g) m st w h = absurd (omega (arith, h))
-words-refused (Exit n) m st w h = absurd (omega (arith, h))
-words-refused (Child n i) m st w h = absurd (omega (arith, h))
-words-refused Idle m st w h = absurd (omega (arith, h))
-words-refused End m st w h = absurd (omega (arith, h))
-words-refused (Refused n) m st w h = refl
+words-refused (Ok (Pid n)) m st w h = absurd (omega (arith, h))
+words-refused (Ok (Run n)) m st w h = absurd (omega (arith, h))
+words-refused (Ok (RunChild n c i)) m st w h = absurd (omega (arith, h))
+words-refused (Ok Done) m st w h = absurd (omega (arith, h))
+words-refused (Ok Asleep) m st w h = absurd (omega (arith, h))
+words-refused (Ok Yes) m st w h = absurd (omega (arith, h))
+words-refused (Ok No) m st w h = absurd (omega (arith, h))
+words-refused (Ok (Fired f g)) m st w h = absurd (omega (arith, h))
+words-refused (Ok (Exit n)) m st w h = absurd (omega (arith, h))
+words-refused (Ok (Child n i)) m st w h = absurd (omega (arith, h))
+words-refused (Ok Idle) m st w h = absurd (omega (arith, h))
+words-refused (Ok End) m st w h = absurd (omega (arith, h))
+words-refused (Err e) m st w h = refl
 
 -- The exported step, from its reply in words.
 number_is
-    : {s s' b m m' : List ℕ} {r : Reply} {v : Words} → WordsAre r v → Replies s s' b m m' r → v.number ≡ number_of (outcome s b m).reply
+    : {s s' b m m' : List ℕ} {r : Result Reply Refusal} {v : Words} → WordsAre r v → Replies s s' b m m' r → v.number ≡ number_of (outcome s b m).reply
 number_is {b = b} {m' = m'} {r = r} q a =
     ap (λ (x : Words). x.number) q.words ∙ number_of_lem r m' (status_in (decode b)) ∙ ap number_of a.reply
 
-number-one : {s s' m m' : List ℕ} {r : Reply} {v : Words} → WordsAre r v → Refuses s s' m m' r → v.number ≡ 1
-number-one q f = ap (λ (x : Words). x.number) q.words ∙ ap (λ (x : Reply). (words_in x).number) f.reply
+number-one : {s s' m m' : List ℕ} {r : Result Reply Refusal} {v : Words} → WordsAre r v → Refuses s s' m m' r → v.number ≡ 1
+number-one q f = ap (λ (x : Words). x.number) q.words ∙ ap (λ (x : Result Reply Refusal). (words_in x).number) f.reply
 
 pub exported_answer
-    : {s s' b m m' : List ℕ} {r : Reply} {v : Words} {w : Lent}
+    : {s s' b m m' : List ℕ} {r : Result Reply Refusal} {v : Words} {w : Lent}
     → Replied s s' b m m' r
     → WordsAre r v
     → 32 ≤ v.number
@@ -223,7 +225,7 @@ exported_answer {s} {s'} {b} {m} {m'} {r} {v} {w} (replies f a) q h =
 exported_answer (refuses n f) q h = absurd (omega (arith, h, number-one q f))
 
 pub exported_refused
-    : {s s' b m m' : List ℕ} {r : Reply} {v : Words} {w : Lent}
+    : {s s' b m m' : List ℕ} {r : Result Reply Refusal} {v : Words} {w : Lent}
     → Replied s s' b m m' r
     → WordsAre r v
     → v.number < 32

@@ -1,11 +1,12 @@
 -- A reply in words.
-use Rattle.std.specs.Prelude.{◌≡◌, true, false, ℕ, length}
+use Rattle.std.specs.Prelude.{◌≡◌, true, false, ℕ, length, Result, Ok, Err}
 use Rattle.std.proofs.Common.{sym, ap, ◌∙◌}
 use Rattle.machine.specs.Outcome as machine
 use Rattle.machine.specs.Outcome.{Answer, answer, refused}
 use Rattle.outcome.specs.declared.Reply.{Reply}
-use Rattle.outcome.specs.declared.Reply.TheVariants.{Pid, Run, RunChild, Done, Asleep, Yes, No, Fired, Exit, Child, Idle, End, Refused}
-use Rattle.outcome.specs.Means.{told}
+use Rattle.outcome.specs.declared.Reply.TheVariants.{Pid, Run, RunChild, Done, Asleep, Yes, No, Fired, Exit, Child, Idle, End}
+use Rattle.outcome.specs.declared.Refusal.{Refusal}
+use Rattle.outcome.specs.Means.{number as refusal_number, told}
 use Rattle.step.specs.declared.Words.{Words}
 
 -- The number of an answer: 32 and up, above every number of the table.
@@ -73,23 +74,23 @@ words_after (refused n) w = w
 abbrev pub the_words : (number first second length : ℕ) → Words
 the_words n f g l = record { number = n; first = f; second = g; length = l }
 
-abbrev pub words_in : Reply → Words
-words_in (Pid n) = the_words 38 n 0 0
-words_in (Run n) = the_words 39 n 0 0
-words_in (RunChild n c l) = the_words 40 n c l
-words_in Done = the_words 32 0 0 0
-words_in Asleep = the_words 33 0 0 0
-words_in Yes = the_words 34 0 0 0
-words_in No = the_words 35 0 0 0
-words_in (Fired f k) = the_words 41 f k 0
-words_in (Exit n) = the_words 42 n 0 0
-words_in (Child n l) = the_words 43 n 0 l
-words_in Idle = the_words 36 0 0 0
-words_in End = the_words 37 0 0 0
-words_in (Refused n) = the_words n 0 0 0
+abbrev pub words_in : Result Reply Refusal → Words
+words_in (Ok (Pid n)) = the_words 38 n 0 0
+words_in (Ok (Run n)) = the_words 39 n 0 0
+words_in (Ok (RunChild n c l)) = the_words 40 n c l
+words_in (Ok Done) = the_words 32 0 0 0
+words_in (Ok Asleep) = the_words 33 0 0 0
+words_in (Ok Yes) = the_words 34 0 0 0
+words_in (Ok No) = the_words 35 0 0 0
+words_in (Ok (Fired f k)) = the_words 41 f k 0
+words_in (Ok (Exit n)) = the_words 42 n 0 0
+words_in (Ok (Child n l)) = the_words 43 n 0 l
+words_in (Ok Idle) = the_words 36 0 0 0
+words_in (Ok End) = the_words 37 0 0 0
+words_in (Err e) = the_words (refusal_number e) 0 0 0
 
-pub record WordsAre (r : Reply) (w : Words) : Type 0 where
+pub record WordsAre (r : Result Reply Refusal) (w : Words) : Type 0 where
   pub words : w ≡ words_in r
 
-pub words_are : {r v : Reply} {w : Words} → r ≡ v → w ≡ words_in v → WordsAre r w
+pub words_are : {r v : Result Reply Refusal} {w : Words} → r ≡ v → w ≡ words_in v → WordsAre r w
 words_are e h = record { words = h ∙ ap words_in (sym e) }

@@ -5,7 +5,7 @@ ghost use Rattle.std.specs.Prelude.{◌≡◌};
 ghost use Rattle.step.specs.Words.{lent, the_words, WordsAre};
 ghost use Rattle.step.specs.Exported.{Replied, Exported};
 
-use outcome::Reply;
+use outcome::{Refusal, Reply};
 
 // The numbers that stand for answers: all above those of the refusals, which stand for themselves.
 pub const DONE: u64 = 32;
@@ -33,7 +33,7 @@ pub const EXIT: u64 = 42;
 pub const CHILD: u64 = 43;
 
 // An answer in words: what it is, its numbers in the order of the listing, and how long its message is.
-#[derive(Clone, Copy)]
+#[derive(Clone, Copy, Debug, PartialEq, Eq)]
 pub struct Words {
     pub number: u64,
     pub first: u64,
@@ -52,29 +52,34 @@ fn in_words(number: u64, first: u64, second: u64, length: u64) -> Words
     }
 }
 
-// A reply in words.
-pub fn words_of(r: Reply) -> Words
-    ensures { WordsAre r result }
-{
-    match r {
-        Reply::Pid { pid } => in_words(PID, pid, 0, 0),
-        Reply::Run { pid } => in_words(RUN, pid, 0, 0),
-        Reply::RunChild { pid, child, length } => in_words(RUN_CHILD, pid, child, length as u64),
-        Reply::Done => in_words(DONE, 0, 0, 0),
-        Reply::Asleep => in_words(ASLEEP, 0, 0, 0),
-        Reply::Yes => in_words(YES, 0, 0, 0),
-        Reply::No => in_words(NO, 0, 0, 0),
-        Reply::Fired { timers, stuck } => in_words(FIRED, timers, stuck, 0),
-        Reply::Exit { pid } => in_words(EXIT, pid, 0, 0),
-        Reply::Child { pid, length } => in_words(CHILD, pid, 0, length as u64),
-        Reply::Idle => in_words(IDLE, 0, 0, 0),
-        Reply::End => in_words(END, 0, 0, 0),
-        Reply::Refused { number } => in_words(number as u64, 0, 0, 0),
+// An answer in words; of a refusal there is its number alone.
+impl From<Result<Reply, Refusal>> for Words {
+    ghost from_gives = { WordsAre };
+
+    #[tactic(auto, using(crate::specs::Words::words_are))]
+    fn from(r: Result<Reply, Refusal>) -> Words {
+        match r {
+            Ok(Reply::Pid { pid }) => in_words(PID, pid, 0, 0),
+            Ok(Reply::Run { pid }) => in_words(RUN, pid, 0, 0),
+            Ok(Reply::RunChild { pid, child, length }) => {
+                in_words(RUN_CHILD, pid, child, length as u64)
+            }
+            Ok(Reply::Done) => in_words(DONE, 0, 0, 0),
+            Ok(Reply::Asleep) => in_words(ASLEEP, 0, 0, 0),
+            Ok(Reply::Yes) => in_words(YES, 0, 0, 0),
+            Ok(Reply::No) => in_words(NO, 0, 0, 0),
+            Ok(Reply::Fired { timers, stuck }) => in_words(FIRED, timers, stuck, 0),
+            Ok(Reply::Exit { pid }) => in_words(EXIT, pid, 0, 0),
+            Ok(Reply::Child { pid, length }) => in_words(CHILD, pid, 0, length as u64),
+            Ok(Reply::Idle) => in_words(IDLE, 0, 0, 0),
+            Ok(Reply::End) => in_words(END, 0, 0, 0),
+            Err(refusal) => in_words(refusal.number() as u64, 0, 0, 0),
+        }
     }
 }
 
 // Takes the step that the bytes `b` are, where `s` is well formed.
-fn reply_to(s: &mut [u8], b: &[u8], message: &mut [u8]) -> Reply
+fn reply_to(s: &mut [u8], b: &[u8], message: &mut [u8]) -> Result<Reply, Refusal>
     ensures { Replied s.old s.new b.now message.old message.new result }
 {
     let formed = verify::check(s);
@@ -82,7 +87,7 @@ fn reply_to(s: &mut [u8], b: &[u8], message: &mut [u8]) -> Reply
         let z = verify::load_sizes(s);
         return proc::take(s, z, b, message);
     }
-    Reply::Refused { number: 1 }
+    Err(Refusal::NotWellFormed)
 }
 
 // Takes one step: `s` a state, `b` the step's bytes, `message` for the exit message that a wait tells. Any bytes, any lengths.
@@ -98,7 +103,7 @@ pub fn step(
     ensures { Exported s.old s.new b.now message.old message.new (lent first.old second.old length.old) (lent first.new second.new length.new) result }
 {
     let reply = reply_to(s, b, message);
-    let w = words_of(reply);
+    let w = Words::from(reply);
     if w.number >= DONE {
         *first = w.first;
         *second = w.second;

@@ -1,149 +1,103 @@
 -- The loop that takes a chunk.
-use Rattle.std.specs.Prelude.{◌≡◌, refl, true, false, List, [], ◌++◌, ℕ, ◌+◌, ◌-◌, ◌≤◌, ◌<◌, length}
+use Rattle.std.specs.Prelude.{◌≡◌, List, [], ◌++◌, ℕ, ◌+◌, ◌-◌, ◌≤◌, ◌<◌, length}
 use Rattle.std.proofs.Common.{sym, ap, subst, ◌∙◌, append_assoc, append-nil, arith}
-use Rattle.std.proofs.lemmas.Bool.{false≢true}
 use Rattle.state.specs.declared.Sizes.{Sizes}
 use Rattle.line.specs.Line.{line_most}
-use Rattle.listing.specs.declared.Fed.{Fed}
+use Rattle.listing.specs.Fed.{Fed, fed}
+use Rattle.listing.specs.Held.{held_most}
 use Rattle.listing.specs.Pieces.{piece, piece-none, piece_join, piece-rest}
 use Rattle.listing.specs.Feed.{FeedAsks, FeedEnds}
 use Rattle.listing.specs.Written.{Written, feeds}
-use Rattle.steps.specs.declared.Left.{Left}
-use Rattle.steps.specs.Chunk.{ChunkAsks, fed_of, More, ChunkTaken}
+use Rattle.steps.specs.Chunk.{ChunkAsks, More, ChunkTaken}
 
--- The loop: the chunk is taken up to f.
-pub record Taking (z : Sizes) (chunk s₀ held₀ out₀ : List ℕ) (f₀ : Fed) (s held b m out : List ℕ) (f : Fed) : Type 0 where
-  pub asks : FeedAsks z s chunk held b m out f
+-- The loop: the chunk is taken up to `from`.
+pub record Taking (z : Sizes) (chunk s₀ held₀ : List ℕ) (have₀ n₀ : ℕ) (s held out : List ℕ) (from have n : ℕ) : Type 0 where
+  pub asks : FeedAsks z s chunk held out (fed from have n 0)
   pub room : line_most z ≤ length out
-  pub empty : f.used ≡ 0
-  pub numbers : f.n ≤ f₀.n + f.from
-  pub long : length s ≡ length s₀
-  pub same : length out ≡ length out₀
+  pub numbers : n ≤ n₀ + from
   pub goes
       : (input output : List ℕ)
-      → Written z s₀ held₀ f₀.have f₀.n input output
-      → More z s held f.have f.n (input ++ piece chunk 0 f.from) output
+      → Written z s₀ held₀ have₀ n₀ input output
+      → More z s held have n (input ++ piece chunk 0 from) output
 
 pub take-start
-    : {z : Sizes} {s chunk held b m out : List ℕ} {l : Left}
-    → ChunkAsks z s chunk held b m out l
-    → Taking z chunk s held out (fed_of l) s held b m out (fed_of l)
-take-start {z} {s} {chunk} {held} {b} {m} {out} {l} a =
+    : {z : Sizes} {s chunk held out : List ℕ} {have n : ℕ}
+    → ChunkAsks z s chunk held out have n
+    → Taking z chunk s held have n s held out 0 have n
+take-start {z} {s} {chunk} {held} {out} {have} {n} a =
     record {
       asks =
           record {
             well = a.asks.well;
             line = a.asks.line;
-            step = a.asks.step;
-            message = a.asks.message;
             few = a.asks.few;
             within = omega arith;
             used = omega arith;
             numbers = omega (arith, a.numbers);
           };
       room = a.asks.room;
-      empty = refl;
       numbers = omega arith;
-      long = refl;
-      same = refl;
       goes = λ input output w.
           record {
             lines = [];
             written =
                 rw (append-nil output)
-                (subst (λ (xs : List ℕ). Written z s held l.have l.n xs output)
+                (subst (λ (xs : List ℕ). Written z s held have n xs output)
                 (sym (ap (λ (xs : List ℕ). input ++ xs) (piece-none chunk 0) ∙ append-nil input))
                 w);
           };
     }
 
-pub take-written
-    : {z : Sizes} {chunk s₀ held₀ out₀ : List ℕ} {f₀ : Fed} {s held b m out : List ℕ} {f : Fed} {s' held' out' : List ℕ} {f' : Fed}
-    → Taking z chunk s₀ held₀ out₀ f₀ s held b m out f
-    → FeedEnds z chunk s held out f s' held' out' f'
-    → f'.used ≤ length out'
-take-written t a = omega (arith, a.went.put.within, a.went.put.long)
+module _ {z : Sizes} {chunk s₀ held₀ : List ℕ} {have₀ n₀ : ℕ} {s held out : List ℕ} {from have n : ℕ} (t : Taking z chunk s₀ held₀ have₀ n₀ s held out from have n) where
+  module _ {s' held' out' : List ℕ} {f : Fed} (a : FeedEnds z chunk s held out (fed from have n 0) s' held' out' f) where
+    pub take-written : f.used ≤ length out'
+    take-written = omega (arith, a.went.put.within, a.went.put.long)
 
-pub take_more
-    : {z : Sizes} {chunk s₀ held₀ out₀ : List ℕ} {f₀ : Fed} {s held b m out : List ℕ} {f : Fed} {s' held' b' m' out' : List ℕ} {f' : Fed}
-    → Taking z chunk s₀ held₀ out₀ f₀ s held b m out f
-    → FeedEnds z chunk s held out f s' held' out' f'
-    → length s' ≡ length s
-    → length held' ≡ length held
-    → length b' ≡ length b
-    → length m' ≡ length m
-    → Taking z chunk s₀ held₀ out₀ f₀ s' held' b' m' out' (record { from = f'.from; have = f'.have; n = f'.n; used = 0 })
-take_more {z} {chunk} {s₀} {held₀} {out₀} {f₀} {s} {held} {b} {m} {out} {f} {s'} {held'} {b'} {m'} {out'} {f'} t a ls lh lb lm =
-    record {
-      asks =
-          record {
-            well = a.went.well;
-            line = lh ∙ t.asks.line;
-            step = lb ∙ t.asks.step;
-            message = lm ∙ t.asks.message;
-            few = a.went.few;
-            within = a.went.within;
-            used = omega arith;
-            numbers = omega (arith, t.asks.numbers, a.went.numbers, a.went.on, a.went.within);
-          };
-      room = omega (arith, t.room, a.went.put.long);
-      empty = refl;
-      numbers = omega (arith, t.numbers, a.went.numbers, a.went.on);
-      long = ls ∙ t.long;
-      same = a.went.put.long ∙ t.same;
-      goes = λ input output w.
-          let g : More z s held f.have f.n (input ++ piece chunk 0 f.from) output = t.goes input output w in
-          record {
-            lines = g.lines ++ a.went.lines;
-            written =
-                subst (λ (xs : List ℕ). Written z s' held' f'.have f'.n xs (output ++ (g.lines ++ a.went.lines)))
-                (append_assoc input (piece chunk 0 f.from) (piece chunk f.from f'.from)
-                ∙ ap (λ (xs : List ℕ). input ++ xs) (piece_join chunk 0 f.from f'.from (omega arith) a.went.on))
-                (rw (← append_assoc output g.lines a.went.lines) (feeds g.written a.went));
-          };
-    }
+    pub take_more : length held' ≡ held_most → Taking z chunk s₀ held₀ have₀ n₀ s' held' out' f.from f.have f.n
+    take_more lh =
+        record {
+          asks =
+              record {
+                well = a.went.well;
+                line = lh;
+                few = a.went.few;
+                within = a.went.within;
+                used = omega arith;
+                numbers = omega (arith, t.asks.numbers, a.went.numbers, a.went.on, a.went.within);
+              };
+          room = omega (arith, t.room, a.went.put.long);
+          numbers = omega (arith, t.numbers, a.went.numbers, a.went.on);
+          goes = λ input output w.
+              let g : More z s held have n (input ++ piece chunk 0 from) output = t.goes input output w in
+              record {
+                lines = g.lines ++ a.went.lines;
+                written =
+                    subst (λ (xs : List ℕ). Written z s' held' f.have f.n xs (output ++ (g.lines ++ a.went.lines)))
+                    (append_assoc input (piece chunk 0 from) (piece chunk from f.from)
+                    ∙ ap (λ (xs : List ℕ). input ++ xs) (piece_join chunk 0 from f.from (omega arith) a.went.on))
+                    (rw (← append_assoc output g.lines a.went.lines) (feeds {f = fed from have n 0} {f' = f} g.written a.went));
+              };
+        }
 
-pub take_less
-    : {z : Sizes} {chunk s₀ held₀ out₀ : List ℕ} {f₀ : Fed} {s held b m out : List ℕ} {f : Fed} {s' held' out' : List ℕ} {f' : Fed}
-    → Taking z chunk s₀ held₀ out₀ f₀ s held b m out f
-    → FeedEnds z chunk s held out f s' held' out' f'
-    → f.from < length chunk
-    → length chunk - f'.from < length chunk - f.from
-take_less t a h = omega (arith, a.moved h (omega (arith, t.room, t.empty)))
+    pub take_less : from < length chunk → length chunk - f.from < length chunk - from
+    take_less h = omega (arith, a.moved h (omega (arith, t.room)))
 
--- A write failed.
-pub take-stop
-    : {z : Sizes} {chunk s₀ held₀ out₀ : List ℕ} {l : Left} {s held b m out : List ℕ} {f : Fed} {s' held' out' : List ℕ} {f' : Fed}
-    → Taking z chunk s₀ held₀ out₀ (fed_of l) s held b m out f
-    → FeedEnds z chunk s held out f s' held' out' f'
-    → ChunkTaken z chunk s₀ held₀ l s' held' (record { more = false; have = f'.have; n = f'.n })
-take-stop t a =
-    record {
-      well = a.went.well;
-      few = a.went.few;
-      numbers = omega (arith, t.numbers, a.went.numbers, a.went.on, a.went.within);
-      whole = λ e. absurd (false≢true e);
-    }
-
--- The chunk is used up.
-pub take-end
-    : {z : Sizes} {chunk s₀ held₀ out₀ : List ℕ} {l : Left} {s held b m out : List ℕ} {f : Fed}
-    → Taking z chunk s₀ held₀ out₀ (fed_of l) s held b m out f
-    → length chunk ≤ f.from
-    → ChunkTaken z chunk s₀ held₀ l s held (record { more = true; have = f.have; n = f.n })
-take-end {z} {chunk} {s₀} {held₀} {out₀} {l} {s} {held} {b} {m} {out} {f} t h =
-    let e : f.from ≡ length chunk = omega (arith, t.asks.within) in
-    record {
-      well = t.asks.well;
-      few = t.asks.few;
-      numbers = omega (arith, t.numbers);
-      whole = λ y input output w.
-          let g : More z s held f.have f.n (input ++ piece chunk 0 f.from) output = t.goes input output w in
-          record {
-            lines = g.lines;
-            written =
-                subst (λ (xs : List ℕ). Written z s held f.have f.n (input ++ xs) (output ++ g.lines))
-                (ap (λ (k : ℕ). piece chunk 0 k) e ∙ piece-rest chunk 0)
-                g.written;
-          };
-    }
+  -- The chunk is used up.
+  pub take-end : length chunk ≤ from → ChunkTaken z chunk s₀ held₀ have₀ n₀ s held have n
+  take-end h =
+      let e : from ≡ length chunk = omega (arith, t.asks.within) in
+      record {
+        well = t.asks.well;
+        line = t.asks.line;
+        few = t.asks.few;
+        numbers = omega (arith, t.numbers);
+        whole = λ input output w.
+            let g : More z s held have n (input ++ piece chunk 0 from) output = t.goes input output w in
+            record {
+              lines = g.lines;
+              written =
+                  subst (λ (xs : List ℕ). Written z s held have n (input ++ xs) (output ++ g.lines))
+                  (ap (λ (k : ℕ). piece chunk 0 k) e ∙ piece-rest chunk 0)
+                  g.written;
+            };
+      }

@@ -1,166 +1,129 @@
 // Reads steps from standard input, a step a line, and writes the listing to standard output.
 #![tactic(auto)]
 
-ghost use Rattle.std.specs.Prelude.{IfOk, OnErr};
+ghost use Rattle.std.specs.Prelude.{◌≡◌, IfOk, OnOk, OnErr, length};
 ghost use Rattle.outcome.specs.Stepped.{Well};
 ghost use Rattle.steps.specs.Chunk.{Asks, ChunkAsks, ChunkTaken};
 ghost use Rattle.steps.specs.Some.{LastTaken, SomeAsks, SomeTaken};
 ghost use Rattle.steps.specs.All.{AllAsks};
 
-use listing::Fed;
-use state::Sizes;
+use line::Machine;
+use listing::Listing;
+use print::Out;
 use std::io;
 use std::io::{Read, Write};
 
 // How many bytes are read at once, and room for what is written at once.
 const CHUNK_SIZE: usize = 65_536;
 
-// What is left after a chunk: whether to go on, how many bytes of the line begun are held, and the number of the next step.
-#[derive(Clone, Copy)]
-struct Left {
-    more: bool,
-    have: usize,
-    n: u64,
-}
-
 // Takes the lines of a chunk, and writes their lines of the listing to `to`. An error is the writer's.
 fn take_chunk<W: Write>(
     to: &mut W,
-    s: &mut [u8],
-    z: Sizes,
+    listing: &mut Listing,
     chunk: &[u8],
-    held: &mut [u8],
-    b: &mut [u8],
-    message: &mut [u8],
-    out: &mut [u8],
-    left: Left,
-) -> io::Result<Left>
-    requires { ChunkAsks z s.old chunk.now held.old b.old message.old out.old left }
-    ensures taken { IfOk result (λ l. ChunkTaken z chunk.now s.old held.old left s.new held.new l) }
-    ensures failed { OnErr result (Well z s.new) }
+    buffer: &mut [u8],
+) -> io::Result<()>
+    requires { ChunkAsks listing.old.machine.sizes listing.old.machine.state.now chunk.now listing.old.held buffer.old listing.old.have listing.old.number }
+    ensures taken { OnOk result (ChunkTaken listing.old.machine.sizes chunk.now listing.old.machine.state.now listing.old.held listing.old.have listing.old.number listing.new.machine.state.now listing.new.held listing.new.have listing.new.number) }
+    ensures failed { OnErr result (Well listing.old.machine.sizes listing.new.machine.state.now) }
+    ensures sizes { listing.new.machine.sizes ≡ listing.old.machine.sizes }
 {
-    let mut fed = Fed {
-        from: 0,
-        have: left.have,
-        n: left.n,
-        used: 0,
-    };
-    while fed.from < chunk.len() {
-        fed = listing::feed(s, z, chunk, held, b, message, out, fed);
-        to.write_all(&out[..fed.used])?;
-        fed.used = 0;
+    let mut from = 0;
+    while from < chunk.len() {
+        let mut out = Out {
+            bytes: &mut *buffer,
+            used: 0,
+        };
+        from = listing.feed(chunk, from, &mut out);
+        let used = out.used;
+        to.write_all(&buffer[..used])?;
     }
-    Ok(Left {
-        more: true,
-        have: fed.have,
-        n: fed.n,
-    })
+    Ok(())
 }
 
 // Takes a last line without its line end, and writes its line of the listing to `to`. The line is taken also where the writer fails.
-fn take_last<W: Write>(
-    to: &mut W,
-    s: &mut [u8],
-    z: Sizes,
-    held: &[u8],
-    b: &mut [u8],
-    message: &mut [u8],
-    out: &mut [u8],
-    left: Left,
-) -> io::Result<()>
-    requires { Asks z s.old held.now b.old message.old out.old left }
-    ensures { LastTaken z s.old held.now left s.new }
+fn take_last<W: Write>(to: &mut W, listing: &mut Listing, buffer: &mut [u8]) -> io::Result<()>
+    requires { Asks listing.old.machine.sizes listing.old.machine.state.now listing.old.held buffer.old listing.old.have }
+    ensures taken { LastTaken listing.old.machine.sizes listing.old.machine.state.now listing.old.held listing.old.have listing.old.number listing.new.machine.state.now }
+    ensures sizes { listing.new.machine.sizes ≡ listing.old.machine.sizes }
 {
-    let fed = Fed {
-        from: 0,
-        have: left.have,
-        n: left.n,
+    let mut out = Out {
+        bytes: buffer,
         used: 0,
     };
-    let used = listing::finish(s, z, held, b, message, out, fed);
-    to.write_all(&out[..used])
+    listing.finish(&mut out);
+    let used = out.used;
+    to.write_all(&out.bytes[..used])
 }
 
-// Reads a chunk from `from` and takes its lines; at the end of the input, the last line. An error is the reader's or the writer's.
+// Reads a chunk from `from` and takes its lines; at the end of the input, the last line. Does the input go on? An error is the reader's
+// or the writer's.
 fn take_some<R: Read, W: Write>(
     from: &mut R,
     to: &mut W,
-    s: &mut [u8],
-    z: Sizes,
+    listing: &mut Listing,
     input: &mut [u8],
-    held: &mut [u8],
-    b: &mut [u8],
-    message: &mut [u8],
-    out: &mut [u8],
-    left: Left,
-) -> io::Result<Left>
-    requires { SomeAsks z s.old input.old held.old b.old message.old out.old left }
-    ensures taken { IfOk result (λ l. SomeTaken z s.old held.old left s.new held.new l) }
-    ensures failed { OnErr result (Well z s.new) }
+    buffer: &mut [u8],
+) -> io::Result<bool>
+    requires { SomeAsks listing.old.machine.sizes listing.old.machine.state.now input.old listing.old.held buffer.old listing.old.have listing.old.number }
+    ensures taken { IfOk result (λ more. SomeTaken listing.old.machine.sizes listing.old.machine.state.now listing.old.held listing.old.have listing.old.number listing.new.machine.state.now listing.new.held listing.new.have listing.new.number more) }
+    ensures failed { OnErr result (Well listing.old.machine.sizes listing.new.machine.state.now) }
+    ensures sizes { listing.new.machine.sizes ≡ listing.old.machine.sizes }
 {
     let n = from.read(input)?;
-    if 0 < n {
-        return take_chunk(to, s, z, &input[..n], held, b, message, out, left);
+    if n == 0 {
+        take_last(to, listing, buffer)?;
+        return Ok(false);
     }
-    take_last(to, s, z, held, b, message, out, left)?;
-    Ok(Left {
-        more: false,
-        have: left.have,
-        n: left.n,
-    })
+    take_chunk(to, listing, &input[..n], buffer)?;
+    Ok(true)
 }
 
-// A loop has to end, and nothing says that the input does: it counts its turns, from a number that no run uses up.
+// A loop has to end, and nothing says that the input does: it counts its turns, to a number that no run comes to.
 const TURNS: u64 = 140_737_488_355_328;
 
 // Chunk after chunk, to the end of the input or the first error.
 fn take_all<R: Read, W: Write>(
     from: &mut R,
     to: &mut W,
-    s: &mut [u8],
-    z: Sizes,
+    listing: &mut Listing,
     input: &mut [u8],
-    held: &mut [u8],
-    b: &mut [u8],
-    message: &mut [u8],
-    out: &mut [u8],
+    buffer: &mut [u8],
 ) -> io::Result<()>
-    requires { AllAsks z s.old input.old held.old b.old message.old out.old }
+    requires { AllAsks listing.old.machine.sizes listing.old.machine.state.now input.old listing.old.held buffer.old listing.old.have listing.old.number }
 {
-    let mut turns = TURNS;
-    let mut left = Left {
-        more: true,
-        have: 0,
-        n: 1,
-    };
-    while 0 < turns && left.more {
-        left = take_some(from, to, s, z, input, held, b, message, out, left)?;
-        turns -= 1;
+    for turn in 0..TURNS {
+        if !take_some(from, to, listing, input, buffer)? {
+            return Ok(());
+        }
     }
     Ok(())
 }
 
 fn main(rt: HostRuntime) -> io::Result<()> {
-    let mut s = [0u8; listing::STATE_SIZE];
+    let mut state = [0u8; listing::STATE_SIZE];
     let mut input = [0u8; CHUNK_SIZE];
-    let mut held = [0u8; listing::HELD_SIZE];
-    let mut b = [0u8; listing::STEP_SIZE];
-    let mut message = [0u8; listing::MESSAGE_SIZE];
-    let mut out = [0u8; CHUNK_SIZE];
+    let mut buffer = [0u8; CHUNK_SIZE];
     let mut from = rt.stdin();
     let mut to = rt.stdout();
-    let z = listing::start(&mut s);
-    let used = listing::begin(&mut out);
-    to.write_all(&out[..used])?;
-    take_all(
-        &mut from,
-        &mut to,
-        &mut s,
-        z,
-        &mut input,
-        &mut held,
-        &mut b,
-        &mut message,
-        &mut out,
-    )
+    let sizes = listing::start(&mut state);
+    let mut out = Out {
+        bytes: &mut buffer,
+        used: 0,
+    };
+    listing::begin(&mut out);
+    let used = out.used;
+    to.write_all(&out.bytes[..used])?;
+    let mut listing = Listing {
+        machine: Machine {
+            state: &mut state,
+            sizes,
+            step: [0; line::STEP_SIZE],
+            message: [0; line::MESSAGE_SIZE],
+        },
+        held: [0; listing::HELD_SIZE],
+        have: 0,
+        number: 1,
+    };
+    take_all(&mut from, &mut to, &mut listing, &mut input, &mut buffer)
 }

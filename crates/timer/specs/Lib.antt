@@ -9,3 +9,4 @@ pub mod Pop
 pub mod Due
 pub mod Readd
 pub mod Queued
+pub mod Lent

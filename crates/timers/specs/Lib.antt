@@ -8,3 +8,4 @@ pub mod Insert
 pub mod Seek
 pub mod Remove
 pub mod Linked
+pub mod Behind

@@ -1,14 +1,22 @@
 // The timer queue: timers by deadline, linked from the header's first link.
 #![tactic(auto)]
 
-ghost use Rattle.state.specs.Places.{mem_in, Wrote};
-ghost use Rattle.timers.specs.Find.{TimersIn, Found, DeadlineOf, NextOf};
+ghost use Rattle.std.specs.Prelude.{◌≡◌, ◌≤◌};
+ghost use Rattle.memory.specs.Link.{link, IsLink};
+ghost use Rattle.machine.specs.Good.{SizesInRange};
+ghost use Rattle.state.specs.Fields as fields;
+ghost use Rattle.state.specs.Lent.{Same};
+ghost use Rattle.state.specs.Places.{sizes_in, mem_in, Wrote};
+ghost use Rattle.timers.specs.Find.{timers_in, TimersIn, Found, DeadlineOf, NextOf};
 ghost use Rattle.timers.specs.Read.{Origin, ReadAsks};
+ghost use Rattle.timers.specs.Behind.{link_behind, behind_store};
 ghost use Rattle.timers.specs.Insert.{link_stores, LinkAsks, InsertAsks, Inserted};
 ghost use Rattle.timers.specs.Seek.{Sought};
 ghost use Rattle.timers.specs.Remove.{out_stores, RemoveAsks, Removed};
 
-use state::{Index, Sizes};
+use memory::Number;
+use state::field::Region;
+use state::{Index, Link, Sizes, State, View, field};
 
 // The bytes of a timer's record, and of its link to the next one.
 const STRIDE: usize = 24;
@@ -19,91 +27,139 @@ const LINK: usize = 2;
 fn records(z: Sizes) -> usize
     ensures { Origin z 5 24 result }
 {
-    state::start_of(z, state::TIMER) - STRIDE
+    z.start_of(Region::Timer) - STRIDE
 }
 
 // The same of the links.
 fn links(z: Sizes) -> usize
     ensures { Origin z 12 2 result }
 {
-    state::start_of(z, state::TIMER_LINK) - LINK
+    z.start_of(Region::TimerLink) - LINK
 }
 
 // The deadline in the record of a link; any number for link 0.
-fn deadline_at(s: &[u8], z: Sizes, from: usize, link: usize) -> u64
-    requires { ReadAsks z s.now 5 24 from link }
-    ensures { DeadlineOf (mem_in z s.now) link result }
+fn deadline_at(v: &View, from: usize, link: usize) -> u64
+    requires { ReadAsks v.now.sizes v.now.bytes.now 5 24 from link }
+    ensures { DeadlineOf (mem_in v.now.sizes v.now.bytes.now) link result }
 {
-    memory::load64(s, from + link * STRIDE)
+    u64::load(v.bytes, from + link * STRIDE)
 }
 
 // The link behind a link; any number for link 0.
-fn next_at(s: &[u8], z: Sizes, from: usize, link: usize) -> usize
-    requires { ReadAsks z s.now 12 2 from link }
-    ensures { NextOf (mem_in z s.now) link result }
+fn next_at(v: &View, from: usize, link: usize) -> usize
+    requires { ReadAsks v.now.sizes v.now.bytes.now 12 2 from link }
+    ensures { NextOf (mem_in v.now.sizes v.now.bytes.now) link result }
 {
-    memory::load16(s, from + link * LINK) as usize
+    u16::load(v.bytes, from + link * LINK) as usize
 }
 
-// The link behind which a timer with this deadline goes, 0 for the front: at the end, or before the first later timer.
-pub fn find_before(s: &[u8], z: Sizes, deadline: u64) -> Index
-    requires { TimersIn z s.now }
-    ensures { Found z (mem_in z s.now) deadline result }
+// The number of the queue's first link.
+fn first(v: &View) -> usize
+    requires { TimersIn v.now.sizes v.now.bytes.now }
+    ensures { result ≡ mem_in v.now.sizes v.now.bytes.now fields.timer_head 0 }
 {
-    let from = records(z);
-    let nexts = links(z);
+    v.get(field::TIMER_HEAD, 0).value() as usize
+}
+
+// The link that a number says: 0 is none, i + 1 leads to timer i.
+fn link_of(n: usize) -> Link
+    requires { n ≤ 65535 }
+    ensures { link result ≡ n }
+{
+    if n == 0 { None } else { Some((n - 1) as Index) }
+}
+
+// The number of the link behind which a timer with this deadline goes: at the end, or before the first later timer.
+// Links are numbers here, and the loop ends by `break`, since an `Option` takes a fifth more time from link to link.
+fn walk_before(v: &View, deadline: u64) -> usize
+    requires { TimersIn v.now.sizes v.now.bytes.now }
+    ensures { Found v.now.sizes (mem_in v.now.sizes v.now.bytes.now) deadline result }
+{
+    let from = records(v.sizes);
+    let nexts = links(v.sizes);
     let mut prev: usize = 0;
-    let mut link = state::get16(s, z, state::HEADER, state::TIMER_HEAD, 0) as usize;
-    let mut key = deadline_at(s, z, from, link);
+    let mut link = first(v);
+    let mut key = deadline_at(v, from, link);
     let at = loop {
         if link == 0 {
-            break prev as Index;
+            break prev;
         }
         if deadline < key {
-            break prev as Index;
+            break prev;
         }
         prev = link;
-        link = next_at(s, z, nexts, link);
-        key = deadline_at(s, z, from, link);
+        link = next_at(v, nexts, link);
+        key = deadline_at(v, from, link);
     };
     at
 }
 
-// Links timer `t` in behind the link `at`, 0 for the front.
-fn link_in(s: &mut [u8], z: Sizes, at: Index, t: Index)
-    requires { LinkAsks z s.old at t }
-    ensures { Wrote z s.old s.new (link_stores (mem_in z s.old) at t) }
+// The link behind which a timer with this deadline goes, none for the front: at the end, or before the first later timer.
+pub fn find_before(v: &View, deadline: u64) -> Link
+    requires { TimersIn v.now.sizes v.now.bytes.now }
+    ensures { Found v.now.sizes (mem_in v.now.sizes v.now.bytes.now) deadline (link result) }
 {
-    if at == 0 {
-        let first = state::get16(s, z, state::HEADER, state::TIMER_HEAD, 0);
-        state::set16(s, z, state::TIMER_LINK, state::TIMER_NEXT, t, first);
-        state::set16(s, z, state::HEADER, state::TIMER_HEAD, 0, t + 1);
-        return;
+    link_of(walk_before(v, deadline))
+}
+
+// The link behind a link, the queue's first for none.
+fn behind(s: &State, at: Link) -> Link
+    requires sizes { SizesInRange (sizes_in s.now.sizes) }
+    requires range { link at ≤ timers_in s.now.sizes }
+    ensures value { link result ≡ link_behind (mem_in s.now.sizes s.now.bytes.now) (link at) }
+    ensures fits { IsLink result }
+{
+    match at {
+        None => s.get(field::TIMER_HEAD, 0),
+        Some(p) => s.get(field::TIMER_NEXT, p),
     }
-    let next = state::get16(s, z, state::TIMER_LINK, state::TIMER_NEXT, at - 1);
-    state::set16(s, z, state::TIMER_LINK, state::TIMER_NEXT, t, next);
-    state::set16(s, z, state::TIMER_LINK, state::TIMER_NEXT, at - 1, t + 1);
+}
+
+// Stores the link behind a link, the queue's first for none.
+fn set_behind(s: &mut State, at: Link, to: Link)
+    requires sizes { SizesInRange (sizes_in s.old.sizes) }
+    requires range { link at ≤ timers_in s.old.sizes }
+    requires fits { IsLink to }
+    ensures same { Same s.old s.new }
+    ensures stored { Wrote s.old.sizes s.old.bytes.now s.new.bytes.now (behind_store (link at) (link to)) }
+{
+    match at {
+        None => s.set(field::TIMER_HEAD, 0, to),
+        Some(p) => s.set(field::TIMER_NEXT, p, to),
+    }
+}
+
+// Links timer `t` in behind the link `at`, none for the front.
+fn link_in(s: &mut State, at: Link, t: Index)
+    requires { LinkAsks s.old.sizes s.old.bytes.now (link at) t }
+    ensures same { Same s.old s.new }
+    ensures stored { Wrote s.old.sizes s.old.bytes.now s.new.bytes.now (link_stores (mem_in s.old.sizes s.old.bytes.now) (link at) t) }
+{
+    let next = behind(s, at);
+    s.set(field::TIMER_NEXT, t, next);
+    set_behind(s, at, Some(t));
 }
 
 // Queues timer `t` by its deadline, after any timer with the same.
-pub fn insert(s: &mut [u8], z: Sizes, t: Index, deadline: u64)
-    requires { InsertAsks z s.old t }
-    ensures { Inserted z s.old s.new t deadline }
+pub fn insert(s: &mut State, t: Index, deadline: u64)
+    requires { InsertAsks s.old.sizes s.old.bytes.now t }
+    ensures same { Same s.old s.new }
+    ensures inserted { Inserted s.old.sizes s.old.bytes.now s.new.bytes.now t deadline }
 {
-    let at = find_before(s, z, deadline);
-    link_in(s, z, at, t);
-    state::set64(s, z, state::TIMER, state::DEADLINE, t, deadline);
-    state::set8(s, z, state::TIMER, state::IS_QUEUED, t, 1);
+    let at = find_before(&s.view(), deadline);
+    link_in(s, at, t);
+    s.set(field::DEADLINE, t, deadline);
+    s.set(field::IS_QUEUED, t, 1);
 }
 
-// The link to the timer before `t`, 0 for the front: at the end, or where the next is `t`.
-fn find_link(s: &[u8], z: Sizes, t: Index) -> Index
-    requires { TimersIn z s.now }
-    ensures { Sought z (mem_in z s.now) t result }
+// The number of the link to the timer before `t`: at the end, or where the next is `t`. Links are numbers, as in `walk_before`.
+fn walk_link(v: &View, t: Index) -> usize
+    requires { TimersIn v.now.sizes v.now.bytes.now }
+    ensures { Sought v.now.sizes (mem_in v.now.sizes v.now.bytes.now) t result }
 {
-    let nexts = links(z);
+    let nexts = links(v.sizes);
     let mine = t as usize + 1;
-    let mut link = state::get16(s, z, state::HEADER, state::TIMER_HEAD, 0) as usize;
+    let mut link = first(v);
     if link == 0 {
         return 0;
     }
@@ -111,43 +167,48 @@ fn find_link(s: &[u8], z: Sizes, t: Index) -> Index
         return 0;
     }
     let at = loop {
-        let next = next_at(s, z, nexts, link);
+        let next = next_at(v, nexts, link);
         if next == 0 {
-            break link as Index;
+            break link;
         }
         if next == mine {
-            break link as Index;
+            break link;
         }
         link = next;
     };
     at
 }
 
-// Takes timer `t` out from behind the link `at`, 0 for the front.
-fn link_out(s: &mut [u8], z: Sizes, at: Index, t: Index)
-    requires { LinkAsks z s.old at t }
-    ensures { Wrote z s.old s.new (out_stores (mem_in z s.old) at t) }
+// The link to the timer before `t`, none for the front: at the end, or where the next is `t`.
+fn find_link(v: &View, t: Index) -> Link
+    requires { TimersIn v.now.sizes v.now.bytes.now }
+    ensures { Sought v.now.sizes (mem_in v.now.sizes v.now.bytes.now) t (link result) }
 {
-    let next = state::get16(s, z, state::TIMER_LINK, state::TIMER_NEXT, t);
-    if at == 0 {
-        state::set16(s, z, state::HEADER, state::TIMER_HEAD, 0, next);
-        state::set16(s, z, state::TIMER_LINK, state::TIMER_NEXT, t, 0);
-        return;
-    }
-    state::set16(s, z, state::TIMER_LINK, state::TIMER_NEXT, at - 1, next);
-    state::set16(s, z, state::TIMER_LINK, state::TIMER_NEXT, t, 0);
+    link_of(walk_link(v, t))
+}
+
+// Takes timer `t` out from behind the link `at`, none for the front.
+fn link_out(s: &mut State, at: Link, t: Index)
+    requires { LinkAsks s.old.sizes s.old.bytes.now (link at) t }
+    ensures same { Same s.old s.new }
+    ensures stored { Wrote s.old.sizes s.old.bytes.now s.new.bytes.now (out_stores (mem_in s.old.sizes s.old.bytes.now) (link at) t) }
+{
+    let next = s.get(field::TIMER_NEXT, t);
+    set_behind(s, at, next);
+    s.set(field::TIMER_NEXT, t, None);
 }
 
 // Takes timer `t` off the queue, if it is queued.
-pub fn remove(s: &mut [u8], z: Sizes, t: Index)
-    requires { RemoveAsks z s.old t }
-    ensures { Removed z s.old s.new t }
+pub fn remove(s: &mut State, t: Index)
+    requires { RemoveAsks s.old.sizes s.old.bytes.now t }
+    ensures same { Same s.old s.new }
+    ensures removed { Removed s.old.sizes s.old.bytes.now s.new.bytes.now t }
 {
-    let queued = state::get8(s, z, state::TIMER, state::IS_QUEUED, t);
+    let queued = s.get(field::IS_QUEUED, t);
     if queued == 0 {
         return;
     }
-    let at = find_link(s, z, t);
-    link_out(s, z, at, t);
-    state::set8(s, z, state::TIMER, state::IS_QUEUED, t, 0);
+    let at = find_link(&s.view(), t);
+    link_out(s, at, t);
+    s.set(field::IS_QUEUED, t, 0);
 }

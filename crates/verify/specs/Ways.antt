@@ -1,7 +1,7 @@
 -- What the parts of the check ensure, and each way out.
-use Rattle.std.specs.Prelude.{◌≡◌, refl, Bool, true, false, List, [], ◌∷◌, ℕ, ◌≤◌, ◌<◌, leb, eqb, length}
-use Rattle.std.proofs.Common.{sym, ap, subst, ◌∙◌, arith, leb-true, leb-false, eqb-true, ne_eqb}
-use Rattle.std.proofs.lemmas.Bool.{eqb-false}
+use Rattle.std.specs.Prelude.{◌≡◌, refl, Bool, true, false, IsTrue, ◌↔◌, List, [], ◌∷◌, ℕ, ◌≤◌, ◌<◌, length}
+use Rattle.std.proofs.Common.{sym, ap, subst, arith, ne_eqb}
+use Rattle.std.proofs.lemmas.Bool.{false≢true}
 use Rattle.machine.specs.Basics.{count}
 use Rattle.machine.specs.Machine as machine
 use Rattle.machine.specs.Good.{SizesInRange, Each}
@@ -36,38 +36,6 @@ FactsIn z s = Facts (sizes_in z) (mem_in z s)
 
 abbrev pub CheckedIn : Sizes → List ℕ → Type 0
 CheckedIn z s = Checked (sizes_in z) s
-
--- Tests of numbers as decisions.
-pub leb_decides : (v n : ℕ) → 1 ≤ v → Decides (leb v n) ((1 ≤ v) × (v ≤ n))
-leb_decides v n h = go (leb v n) refl
-  where
-    go : (b : Bool) → leb v n ≡ b → Decides b ((1 ≤ v) × (v ≤ n))
-    go true e = (h, leb-true v n e)
-    go false e = λ p. omega (arith, leb-false v n e, p.1)
-
--- The last test of the sizes.
-pub sizes-last
-    : (z : Sizes)
-    → (1 ≤ z.processes) × (z.processes ≤ 4096)
-    → (1 ≤ z.rendez) × (z.rendez ≤ 4096)
-    → (1 ≤ z.locks) × (z.locks ≤ 4096)
-    → (1 ≤ z.timers) × (z.timers ≤ 4096)
-    → (1 ≤ z.cells) × (z.cells ≤ 65000)
-    → z.hz < 4294967296
-    → Decides (leb 1 z.hz) (SizesInRange (sizes_in z))
-sizes-last z p r q k c h = go (leb 1 z.hz) refl
-  where
-    go : (b : Bool) → leb 1 z.hz ≡ b → Decides b (SizesInRange (sizes_in z))
-    go true e = record { processes = p; rendez = r; locks = q; timers = k; cells = c; hz = (leb-true 1 z.hz e, omega arith) }
-    go false e = λ y. omega (arith, leb-false 1 z.hz e, y.hz.0)
-
--- The last test of the marks.
-pub marks_last : (z : Sizes) (s : List ℕ) (v : ℕ) → mem_in z s fields.mark 0 ≡ mark_value → v ≡ mem_in z s fields.layout_number 0 → Decides (eqb v 1) (Marks z s)
-marks_last z s v m e = go (eqb v 1) refl
-  where
-    go : (b : Bool) → eqb v 1 ≡ b → Decides b (Marks z s)
-    go true d = record { mark = m; layout = sym e ∙ eqb-true v 1 d }
-    go false d = λ k. eqb-false v 1 d (e ∙ k.layout)
 
 -- The facts, in the parts that are tested one after another.
 pub facts-processes : {z : machine.Sizes} {m : Memory} → Facts z m → ProcessesOk z m
@@ -143,3 +111,8 @@ sizes_wrong r w = subst (λ (y : machine.Sizes). SizesInRange y) (sym r.same) w.
 pub too_short : {s : List ℕ} {z : Sizes} → SizesRead s z → length s < total_in z → WellFormed s → ⊥
 too_short {s} {z} r l w =
     omega (arith, w.rep.state.long, ap (λ (y : machine.Sizes). total fields.layout1 (fields.counts y)) r.same)
+
+-- A test that is true exactly where a statement holds decides it.
+pub decided : {P : Type 0} (b : Bool) → IsTrue b ↔ P → Decides b P
+decided true e = e.0 refl
+decided false e = λ p. absurd (false≢true (e.1 p))

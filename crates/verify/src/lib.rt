@@ -1,107 +1,76 @@
 // Whether bytes are a well-formed state.
 #![tactic(auto)]
 
-ghost use Rattle.std.specs.Prelude.{◌≡◌, ◌≤◌, length};
+ghost use Rattle.std.specs.Prelude.{◌≡◌, ◌≤◌, length, IsTrue, ◌↔◌};
 ghost use Rattle.state.specs.Places.{sizes_in};
 ghost use Rattle.state.specs.WellFormed.{WellFormed};
-ghost use Rattle.rules.specs.Code.{Decides, Long, Whole};
+ghost use Rattle.rules.specs.Code.{Decides};
 ghost use Rattle.machine.specs.Good.{SizesInRange};
 ghost use Rattle.verify.specs.Ways.{SizesRead, Marks, FactsIn, CheckedIn};
 
-use state::{Index, Sizes};
+use memory::Number;
+use rules::Checked;
+use state::{Index, Sizes, View, field};
 
-// The sizes that the header names.
+// The sizes that the header names. They are read from the slice itself, since a `View` has its sizes already.
 pub fn load_sizes(s: &[u8]) -> Sizes
     requires { 80 ≤ length s.now }
     ensures { SizesRead s.now result }
 {
     Sizes {
-        processes: memory::load16(s, 16),
-        rendez: memory::load16(s, 18),
-        locks: memory::load16(s, 20),
-        timers: memory::load16(s, 22),
-        cells: memory::load16(s, 24),
-        hz: memory::load32(s, 12),
+        processes: u16::load(s, 16),
+        rendez: u16::load(s, 18),
+        locks: u16::load(s, 20),
+        timers: u16::load(s, 22),
+        cells: u16::load(s, 24),
+        hz: u32::load(s, 12),
     }
 }
 
-// Is `v` from 1 to `most`?
-fn fits(v: Index, most: Index) -> bool
-    ensures { Decides result ((1 ≤ v) × (v ≤ most)) }
+// Is `n` from 1 to `most`?
+fn fits(n: Index, most: Index) -> bool
+    ensures { IsTrue result ↔ (1 ≤ n) × (n ≤ most) }
 {
-    if v < 1 {
-        return false;
-    }
-    v <= most
+    1 <= n && n <= most
 }
 
 // Are the sizes in range?
 fn sizes_ok(z: Sizes) -> bool
-    ensures { Decides result (SizesInRange (sizes_in z)) }
+    ensures { IsTrue result ↔ SizesInRange (sizes_in z) }
 {
-    if !fits(z.processes, 4096) {
-        return false;
-    }
-    if !fits(z.rendez, 4096) {
-        return false;
-    }
-    if !fits(z.locks, 4096) {
-        return false;
-    }
-    if !fits(z.timers, 4096) {
-        return false;
-    }
-    if !fits(z.cells, 65000) {
-        return false;
-    }
-    1 <= z.hz
+    fits(z.processes, 4096)
+        && (fits(z.rendez, 4096)
+            && (fits(z.locks, 4096)
+                && (fits(z.timers, 4096) && (fits(z.cells, 65000) && 1 <= z.hz))))
 }
 
 // Are the mark and the layout's number right?
-fn marks_ok(s: &[u8], z: Sizes) -> bool
-    requires { Long z s.now }
-    ensures { Decides result (Marks z s.now) }
+fn marks_ok(v: &View) -> bool
+    ensures { IsTrue result ↔ Marks v.now.sizes v.now.bytes.now }
 {
-    let mark = state::get64(s, z, state::HEADER, state::MARK, 0);
-    let layout = state::get32(s, z, state::HEADER, state::LAYOUT_NUMBER, 0);
-    if mark != 5_426_368_344_079_553_864 {
-        return false;
-    }
-    layout == 1
+    v.get(field::MARK, 0) == 5_426_368_344_079_553_864 && v.get(field::LAYOUT_NUMBER, 0) == 1
 }
 
 // Do the facts hold of a state in range?
-fn facts_ok(s: &[u8], z: Sizes) -> bool
-    requires { Whole z s.now }
-    ensures { Decides result (FactsIn z s.now) }
+fn facts_ok(v: &Checked) -> bool
+    ensures { IsTrue result ↔ FactsIn v.now.sizes v.now.bytes.now }
 {
-    if !scan::processes_ok(s, z) {
-        return false;
-    }
-    if !walks::queues_ok(s, z) {
-        return false;
-    }
-    if !kin::kin_ok(s, z) {
-        return false;
-    }
-    if !idle::idle_ok(s, z) {
-        return false;
-    }
-    index::index_ok(s, z)
+    scan::processes_ok(v)
+        && (walks::queues_ok(v) && (kin::kin_ok(v) && (idle::idle_ok(v) && index::index_ok(v))))
 }
 
-// Is a buffer that is long enough for these sizes a state of them?
-fn state_ok(s: &[u8], z: Sizes) -> bool
-    requires { Long z s.now }
-    ensures { Decides result (CheckedIn z s.now) }
+// Is what is long enough for its sizes a state of them?
+fn state_ok(v: &View) -> bool
+    requires { SizesInRange (sizes_in v.now.sizes) }
+    ensures { IsTrue result ↔ CheckedIn v.now.sizes v.now.bytes.now }
 {
-    if !marks_ok(s, z) {
+    if !marks_ok(v) {
         return false;
     }
-    if !bounds::in_range(s, z) {
-        return false;
+    match bounds::checked(v) {
+        Some(c) => facts_ok(&c),
+        None => false,
     }
-    facts_ok(s, z)
 }
 
 // Is `s` a well-formed state? Any bytes, any length; nothing is written.
@@ -115,9 +84,8 @@ pub fn check(s: &[u8]) -> bool
     if !sizes_ok(z) {
         return false;
     }
-    let n = state::total(z);
-    if s.len() < n {
+    if s.len() < z.total() {
         return false;
     }
-    state_ok(s, z)
+    state_ok(&View { bytes: s, sizes: z })
 }

@@ -19,3 +19,4 @@ pub mod TakeCode
 pub mod Clear
 pub mod Added
 pub mod AddCode
+pub mod Lent

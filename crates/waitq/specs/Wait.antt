@@ -1,4 +1,4 @@
--- The cases of a wait record, and the number that 01 gives each.
+-- The cases of a wait record, and the number that refuses each (docs/MACHINE.md, "Refusals").
 use Rattle.std.specs.Prelude.{if◌then◌else◌, ◌≡◌, refl, Bool, true, false, ◌&&◌, [], ◌∷◌, ℕ, eqb}
 use Rattle.std.proofs.Common.{ap₂, ◌∙◌}
 use Rattle.std.proofs.Math.Option.{Option, none, some}
@@ -23,7 +23,7 @@ wait_state_of p =
     then WaitState.InUse
     else if is_empty p.exits then if eqb p.nchild 0 then WaitState.NoChild else WaitState.Sleep else WaitState.Take
 
--- 01's number for it: EINUSE is 14, ENOCHILD is 15; the other two are not refused.
+-- The number that refuses it: EINUSE is 14, ENOCHILD is 15; the other two are not refused.
 abbrev pub wait_number : WaitState → Option ℕ
 wait_number WaitState.InUse = some 14
 wait_number WaitState.NoChild = some 15

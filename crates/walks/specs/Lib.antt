@@ -1,5 +1,5 @@
 -- The walks and counts of the check: timers, exits and the living by age.
-pub mod Loops
+pub mod Counts
 pub mod Order
 pub mod Timers
 pub mod TimerQueue

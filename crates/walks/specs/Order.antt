@@ -8,7 +8,7 @@ use Rattle.chain.specs.Links.{Links, Chain, final, final-end}
 use Rattle.chain.specs.Ordered.{Sorted}
 use Rattle.state.specs.WellFormed.{Rising}
 use Rattle.chain.specs.Prefix.{Prefix, prefix-links, prefix-more, links-distinct, links-below}
-use Rattle.rules.specs.Walk.{Walking}
+use Rattle.rules.specs.Walk.{Walking, walk-long, walk-bad}
 
 -- `Walking` with what was met in sight.
 pub record Trail (g : ℕ → ℕ) (P : ℕ → Type 0) (h link last k : ℕ) (xs : List ℕ) : Type 0 where
@@ -27,37 +27,50 @@ pub each_more : (P : ℕ → Type 0) (xs : List ℕ) (x : ℕ) → Each P xs →
 each_more P [] x a p = (p, tt)
 each_more P (y ∷ xs) x a p = (a.0, each_more P xs x a.1 p)
 
--- A link that is not 0 names a number.
-pub named : {link : ℕ} → (link ≡ 0 → ⊥) → link ≡ suc (link - 1)
-named ne = omega arith
-
+-- One number more.
 pub trail_more
-    : {g : ℕ → ℕ} {P : ℕ → Type 0} {h link last k link' k' : ℕ} {xs : List ℕ}
-    → Trail g P h link last k xs
-    → (link ≡ 0 → ⊥)
-    → P (link - 1)
-    → link' ≡ g (link - 1)
-    → k' ≡ k + 1
-    → Trail g P h link' link k' (xs ++ (link - 1) ∷ [])
-trail_more {g} {P} {h} {link} {last} {k} {link'} {k'} {xs} t ne p e c =
-    let d : link ≡ suc (link - 1) = named ne in
+    : {g : ℕ → ℕ} {P : ℕ → Type 0} {h i last k link' : ℕ} {xs : List ℕ}
+    → Trail g P h (suc i) last k xs
+    → P i
+    → link' ≡ g i
+    → Trail g P h link' (suc i) (k + 1) (xs ++ i ∷ [])
+trail_more {g} {P} {h} {i} {last} {k} {link'} {xs} t p e =
     record {
-      prefix = rw e (prefix-more g h xs (link - 1) (subst (λ (x : ℕ). Prefix g h xs x) d t.prefix));
-      each = each_more P xs (link - 1) t.each p;
-      count = omega (arith, t.count, length-append xs ((link - 1) ∷ []));
-      ends = d ∙ sym (final-end 0 xs (link - 1));
+      prefix = rw e (prefix-more g h xs i t.prefix);
+      each = each_more P xs i t.each p;
+      count = omega (arith, t.count, length-append xs (i ∷ []));
+      ends = sym (final-end 0 xs i);
     }
+
+-- A chain below n that hangs at h is at most n long, and each number of it is met.
+pub trail-long
+    : {n : ℕ} {g : ℕ → ℕ} {P : ℕ → Type 0} {h i last k : ℕ} {xs ys : List ℕ}
+    → Trail g P h (suc i) last k xs
+    → n ≤ k
+    → Chain n g h ys
+    → ⊥
+trail-long t l c = walk-long (trail-walking t) (λ e. omega arith) l c
+
+pub trail-bad
+    : {n : ℕ} {g : ℕ → ℕ} {P : ℕ → Type 0} {h i last k : ℕ} {xs ys : List ℕ}
+    → Trail g P h (suc i) last k xs
+    → (P i → ⊥)
+    → Chain n g h ys
+    → Each P ys
+    → ⊥
+trail-bad {P = P} {i = i} t b c a =
+    let e : i ≡ suc i - 1 = omega arith in
+    walk-bad (trail-walking t) (λ d. omega arith) (subst (λ (x : ℕ). P x → ⊥) e b) c a
 
 -- A walk that has ended has met a chain.
 pub trail-chain
-    : {n : ℕ} {g : ℕ → ℕ} {P : ℕ → Type 0} {h link last k : ℕ} {xs : List ℕ}
-    → Trail g P h link last k xs
-    → link ≡ 0
+    : {n : ℕ} {g : ℕ → ℕ} {P : ℕ → Type 0} {h last k : ℕ} {xs : List ℕ}
+    → Trail g P h 0 last k xs
     → h ≤ n
     → ((i : ℕ) → g i ≤ n)
     → Chain n g h xs
-trail-chain {n} {g} {P} {h} {link} {last} {k} {xs} t e b r =
-    let l : Links g h xs = prefix-links g h xs (subst (λ (x : ℕ). Prefix g h xs x) e t.prefix) in
+trail-chain {n} {g} {P} {h} {last} {k} {xs} t b r =
+    let l : Links g h xs = prefix-links g h xs t.prefix in
     record { links = l; distinct = links-distinct g h xs l; below = links-below n g h xs b r l }
 
 -- A chain from the same head goes on with the next number.
@@ -75,13 +88,11 @@ prefix-split g h (x ∷ xs) (y ∷ ys) i p l =
     (r.0, subst (λ (k : ℕ). y ∷ ys ≡ k ∷ (xs ++ i ∷ r.0)) e (ap (λ (us : List ℕ). y ∷ us) r.1))
 
 pub trail-split
-    : {g : ℕ → ℕ} {P : ℕ → Type 0} {h link last k : ℕ} {xs ys : List ℕ}
-    → Trail g P h link last k xs
-    → (link ≡ 0 → ⊥)
+    : {g : ℕ → ℕ} {P : ℕ → Type 0} {h i last k : ℕ} {xs ys : List ℕ}
+    → Trail g P h (suc i) last k xs
     → Links g h ys
-    → (vs : List ℕ) × (ys ≡ xs ++ (link - 1) ∷ vs)
-trail-split {g} {P} {h} {link} {last} {k} {xs} {ys} t ne l =
-    prefix-split g h xs ys (link - 1) (subst (λ (x : ℕ). Prefix g h xs x) (named ne) t.prefix) l
+    → (vs : List ℕ) × (ys ≡ xs ++ i ∷ vs)
+trail-split {g} {P} {h} {i} {last} {k} {xs} {ys} t l = prefix-split g h xs ys i t.prefix l
 
 -- Each `hi` is at most the `lo` of all after it: with the key for both this is `Sorted`, with one more for `hi` it is `Rising`.
 abbrev pub Ordered : (ℕ → ℕ) → (ℕ → ℕ) → List ℕ → Type 0

@@ -1,425 +1,236 @@
 // Walks and counts of the check: the timers, the exits, and the living by age.
+// Each walk is a loop of its own: what it asks of a record depends on the one before it, so a common walk would take a closure that keeps
+// the last deadline, or the last record with its pid, and would be no plainer.
 #![tactic(auto)]
 
-ghost use Rattle.std.specs.Prelude.{◌≡◌, ◌+◌, ◌-◌, ◌<◌, ◌≤◌, ℕ, eqb};
+ghost use Rattle.std.specs.Prelude.{◌≡◌, ◌+◌, ◌<◌, ◌≤◌, ℕ, IsTrue, ◌↔◌};
 ghost use Rattle.state.specs.Abs.{is_set};
-ghost use Rattle.state.specs.Fields as fields;
-ghost use Rattle.state.specs.Places.{sizes_in};
-ghost use Rattle.rules.specs.Code.{mem_in, Whole, Decides};
+ghost use Rattle.state.specs.Places.{sizes_in, cell_in};
+ghost use Rattle.state.specs.Regions.{slot_of};
+ghost use Rattle.rules.specs.Code.{mem_in};
 ghost use Rattle.rules.specs.Facts.{count_below, TimerOk, ExitsOk};
-ghost use Rattle.walks.specs.Loops.{Ones};
+ghost use Rattle.walks.specs.Counts.{Asks};
 ghost use Rattle.walks.specs.Timers.{PeriodOk, TickOk};
 ghost use Rattle.walks.specs.TimerQueue.{TimerCounts};
 ghost use Rattle.walks.specs.AllExits.{ExitsHere, AllExits};
 ghost use Rattle.walks.specs.Ages.{AgeCounts};
 ghost use Rattle.walks.specs.Queues.{TimerFacts, ExitFacts, AgeFacts, QueueFacts};
 
-use state::{Count, Index, Sizes};
+use memory::Number;
+use rules::Checked;
+use state::field::{self, Field};
+use state::{Count, Index};
 
-// Whether something holds, and where it does a count.
-#[derive(Clone, Copy)]
-pub struct Counted {
-    pub ok: bool,
-    pub count: Count,
-}
-
-// The same with a larger count.
-#[derive(Clone, Copy)]
-pub struct Summed {
-    pub ok: bool,
-    pub count: u32,
-}
-
-// The answers where it does not hold.
-const NOT_COUNTED: Counted = Counted {
-    ok: false,
-    count: 0,
-};
-
-const NOT_SUMMED: Summed = Summed {
-    ok: false,
-    count: 0,
-};
-
-// 1 where `v` is 1.
-fn if_one(v: u8) -> Count
-    ensures { Ones (eqb v 1) result }
+// Of how many of the first `n` records a field is not 0.
+pub fn count_set<T: Number + Drop>(v: &Checked, f: Field<T>, n: Index) -> Count
+    requires { Asks v.now.sizes (slot_of f T.width) n }
+    ensures { result ≡ count_below n (λ i. is_set (cell_in v.now.sizes v.now.bytes.now (slot_of f T.width) i)) }
 {
-    if v == 1 {
-        return 1;
+    let mut count = 0;
+    for i in 0..n {
+        if v.get(f, i).value() != 0 {
+            count += 1;
+        }
     }
-    0
-}
-
-// 1 where `v` is not 0.
-fn if_set(v: u64) -> Count
-    ensures { Ones (is_set v) result }
-{
-    if v == 0 {
-        return 0;
-    }
-    1
-}
-
-// How many timers are queued.
-pub fn count_queued(s: &[u8], z: Sizes) -> Count
-    requires { Whole z s.now }
-    ensures { result ≡ count_below (z.timers + z.processes) (λ t. eqb (mem_in z s.now fields.is_queued t) 1) }
-{
-    let end = z.timers + z.processes;
-    let mut n: Count = 0;
-    let mut t: Index = 0;
-    while t < end {
-        let v = state::get8(s, z, state::TIMER, state::IS_QUEUED, t);
-        n += if_one(v);
-        t += 1;
-    }
-    n
+    count
 }
 
 // Is a period none, or no shorter than 100 µs?
 fn period_ok(hz: u32, p: u64) -> bool
-    ensures { Decides result (PeriodOk hz p) }
+    ensures { IsTrue result ↔ PeriodOk hz p }
 {
-    if p == 0 {
-        return true;
-    }
     let shortest = clock::Duration {
         secs: 0,
         nanos: 100_000,
     };
-    let least = shortest.to_counts(hz);
-    if p < least {
-        return false;
-    }
-    true
+    p == 0 || shortest.to_counts(hz) <= p
 }
 
 // Is the period of timer 0 10 ms, and where it is queued, is its deadline after the last tick?
-fn tick_ok(s: &[u8], z: Sizes) -> bool
-    requires { Whole z s.now }
-    ensures { Decides result (TickOk z s.now) }
+fn tick_ok(v: &Checked) -> bool
+    ensures { IsTrue result ↔ TickOk v.now.sizes v.now.bytes.now }
 {
-    let hz = z.hz;
     let ten = clock::Duration {
         secs: 0,
         nanos: 10_000_000,
     };
-    let tick = ten.to_counts(hz);
-    let p = state::get64(s, z, state::TIMER, state::PERIOD, 0);
-    if p != tick {
-        return false;
-    }
-    let q = state::get8(s, z, state::TIMER, state::IS_QUEUED, 0);
-    if q != 1 {
-        return true;
-    }
-    let last = state::get64(s, z, state::HEADER, state::TICKS, 0);
-    let dead = state::get64(s, z, state::TIMER, state::DEADLINE, 0);
-    if last < dead {
-        return true;
-    }
-    false
+    v.get(field::PERIOD, 0) == ten.to_counts(v.sizes.hz)
+        && (v.get(field::IS_QUEUED, 0) != 1 || v.get(field::TICKS, 0) < v.get(field::DEADLINE, 0))
 }
 
 // Is kernel timer `t` in order?
-fn kernel_ok(s: &[u8], z: Sizes, t: Index) -> bool
-    requires formed { Whole z s.now }
-    requires index { t < z.timers }
-    ensures { Decides result (TimerOk (sizes_in z) (mem_in z s.now) t) }
+fn kernel_ok(v: &Checked, t: Index) -> bool
+    requires { t < v.now.sizes.timers }
+    ensures { IsTrue result ↔ TimerOk (sizes_in v.now.sizes) (mem_in v.now.sizes v.now.bytes.now) t }
 {
-    let hz = z.hz;
-    let p = state::get64(s, z, state::TIMER, state::PERIOD, t);
-    if period_ok(hz, p) {
-        if t != 0 {
-            return true;
-        }
-        if tick_ok(s, z) {
-            return true;
-        }
-    }
-    false
+    period_ok(v.sizes.hz, v.get(field::PERIOD, t)) && (t != 0 || tick_ok(v))
 }
 
 // Is `t`, a process's own timer, in order: queued only while the process is in a `tsleep`?
-fn own_ok(s: &[u8], z: Sizes, t: Index) -> bool
-    requires formed { Whole z s.now }
-    requires index { (z.timers ≤ t) × (t < z.timers + z.processes) }
-    ensures { Decides result (TimerOk (sizes_in z) (mem_in z s.now) t) }
+fn own_ok(v: &Checked, t: Index) -> bool
+    requires above { v.now.sizes.timers ≤ t }
+    requires below { t < v.now.sizes.timers + v.now.sizes.processes }
+    ensures { IsTrue result ↔ TimerOk (sizes_in v.now.sizes) (mem_in v.now.sizes v.now.bytes.now) t }
 {
-    let i = t - z.timers;
-    let q = state::get8(s, z, state::TIMER, state::IS_QUEUED, t);
-    if q != 1 {
-        return true;
-    }
-    let p = state::get64(s, z, state::PROCESS, state::PID, i);
-    if p == 0 {
-        return false;
-    }
-    let r = state::get8(s, z, state::PROCESS, state::RESUME_KIND, i);
-    if r == state::TSLEEP {
-        return true;
-    }
-    false
+    let i = t - v.sizes.timers;
+    v.get(field::IS_QUEUED, t) != 1
+        || (v.get(field::PID, i) != 0 && v.get(field::RESUME_KIND, i) == state::TSLEEP)
 }
 
 // Is timer `t` in order?
-pub fn timer_ok(s: &[u8], z: Sizes, t: Index) -> bool
-    requires formed { Whole z s.now }
-    requires index { t < z.timers + z.processes }
-    ensures { Decides result (TimerOk (sizes_in z) (mem_in z s.now) t) }
+pub fn timer_ok(v: &Checked, t: Index) -> bool
+    requires { t < v.now.sizes.timers + v.now.sizes.processes }
+    ensures { IsTrue result ↔ TimerOk (sizes_in v.now.sizes) (mem_in v.now.sizes v.now.bytes.now) t }
 {
-    let k = z.timers;
-    if t < k {
-        return kernel_ok(s, z, t);
+    if t < v.sizes.timers {
+        kernel_ok(v, t)
+    } else {
+        own_ok(v, t)
     }
-    own_ok(s, z, t)
 }
 
 // Is every timer in order?
-pub fn timers_ok(s: &[u8], z: Sizes) -> bool
-    requires { Whole z s.now }
-    ensures { Decides result ((t : ℕ) → t < z.timers + z.processes → TimerOk (sizes_in z) (mem_in z s.now) t) }
+pub fn timers_ok(v: &Checked) -> bool
+    ensures { IsTrue result
+        ↔ ((t : ℕ) → t < v.now.sizes.timers + v.now.sizes.processes → TimerOk (sizes_in v.now.sizes) (mem_in v.now.sizes v.now.bytes.now) t) }
 {
-    let end = z.timers + z.processes;
-    let mut t: Index = 0;
-    while t < end {
-        if timer_ok(s, z, t) {
-            t += 1;
-        } else {
-            return false;
-        }
-    }
-    true
+    (0..v.sizes.timers + v.sizes.processes).all(|t| timer_ok(v, t))
 }
 
-// Do the links of the timer queue end, are all in it queued, and do they stand by deadline? And how many are they?
-pub fn timer_queue_ok(s: &[u8], z: Sizes) -> Counted
-    requires { Whole z s.now }
-    ensures { TimerCounts z s.now result.ok result.count }
+// Do the links of the timer queue end, are all in it queued, and do they stand by deadline? Then how many they are.
+pub fn timer_queue_ok(v: &Checked) -> Option<Count>
+    ensures { TimerCounts v.now.sizes v.now.bytes.now result }
 {
-    let most = z.timers + z.processes;
-    let mut link = state::get16(s, z, state::HEADER, state::TIMER_HEAD, 0);
-    let mut n: Count = 0;
-    let mut last: u64 = 0;
-    while link != 0 {
+    let most = v.sizes.timers + v.sizes.processes;
+    let mut at = v.get(field::TIMER_HEAD, 0);
+    let mut n = 0;
+    let mut last = 0;
+    while let Some(t) = at {
         if n == most {
-            return NOT_COUNTED;
+            return None;
         }
-        let q = state::get8(s, z, state::TIMER, state::IS_QUEUED, link - 1);
-        if q != 1 {
-            return NOT_COUNTED;
+        if v.get(field::IS_QUEUED, t) != 1 {
+            return None;
         }
-        let d = state::get64(s, z, state::TIMER, state::DEADLINE, link - 1);
-        if d < last {
-            return NOT_COUNTED;
+        let due = v.get(field::DEADLINE, t);
+        if due < last {
+            return None;
         }
-        last = d;
-        link = state::get16(s, z, state::TIMER_LINK, state::TIMER_NEXT, link - 1);
+        last = due;
+        at = v.get(field::TIMER_NEXT, t);
         n += 1;
     }
-    Counted { ok: true, count: n }
+    Some(n)
 }
 
 // Are the exits of record `i` as many cells as it says, each of which names it as its owner?
-pub fn exits_ok(s: &[u8], z: Sizes, i: Index) -> bool
-    requires formed { Whole z s.now }
-    requires index { i < z.processes }
-    ensures { Decides result (ExitsOk (sizes_in z) (mem_in z s.now) i) }
+pub fn exits_ok(v: &Checked, i: Index) -> bool
+    requires { i < v.now.sizes.processes }
+    ensures { IsTrue result ↔ ExitsOk (sizes_in v.now.sizes) (mem_in v.now.sizes v.now.bytes.now) i }
 {
-    let me = i + 1;
-    let n = state::get8(s, z, state::PROCESS, state::NEXITS, i);
-    let mut link = state::get16(s, z, state::PROCESS, state::EXITS, i);
-    let mut k: u8 = 0;
-    while link != 0 {
+    let v = *v;
+    // As a number: two options took longer to compare.
+    let me = Some(i).value();
+    let n = v.get(field::NEXITS, i);
+    let mut at = v.get(field::EXITS, i);
+    let mut k = 0;
+    while let Some(c) = at {
         if k == n {
             return false;
         }
-        let o = state::get16(s, z, state::CELL, state::OWNER, link - 1);
-        if o != me {
+        if v.get(field::OWNER, c).value() != me {
             return false;
         }
-        link = state::get16(s, z, state::CELL, state::CELL_NEXT, link - 1);
+        at = v.get(field::CELL_NEXT, c);
         k += 1;
     }
-    if k == n {
-        return true;
-    }
-    false
+    k == n
 }
 
-// The exits of record `i`, where it is used.
-fn exits_of(s: &[u8], z: Sizes, i: Index) -> Summed
-    requires formed { Whole z s.now }
-    requires index { i < z.processes }
-    ensures { ExitsHere z s.now i result.ok result.count }
+// How many exits record `i` has, none where it is free. Where it is used and its exits are not in order, there is no answer.
+fn exits_of(v: &Checked, i: Index) -> Option<u32>
+    requires { i < v.now.sizes.processes }
+    ensures { ExitsHere v.now.sizes v.now.bytes.now i result }
 {
-    let p = state::get64(s, z, state::PROCESS, state::PID, i);
-    if p == 0 {
-        return Summed { ok: true, count: 0 };
+    if v.get(field::PID, i) == 0 {
+        return Some(0);
     }
-    if exits_ok(s, z, i) {
-        let n = state::get8(s, z, state::PROCESS, state::NEXITS, i);
-        return Summed {
-            ok: true,
-            count: n as u32,
-        };
+    if exits_ok(v, i) {
+        Some(u32::from(v.get(field::NEXITS, i)))
+    } else {
+        None
     }
-    NOT_SUMMED
 }
 
-// Are the exits of every used record in order, and how many are they together?
-pub fn all_exits_ok(s: &[u8], z: Sizes) -> Summed
-    requires { Whole z s.now }
-    ensures { AllExits z s.now result.ok result.count }
+// Are the exits of every used record in order? Then how many they are together.
+pub fn all_exits_ok(v: &Checked) -> Option<u32>
+    ensures { AllExits v.now.sizes v.now.bytes.now result }
 {
-    let end = z.processes;
-    let mut n: u32 = 0;
-    let mut i: Index = 0;
-    while i < end {
-        let e = exits_of(s, z, i);
-        let ok = e.ok;
-        let more = e.count;
-        if ok {
-            n += more;
-            i += 1;
-        } else {
-            return NOT_SUMMED;
+    let v = *v;
+    let mut n = 0;
+    for i in 0..v.sizes.processes {
+        n += exits_of(&v, i)?;
+    }
+    Some(n)
+}
+
+// Do the links of the living by age run both ways, are all of them used, and do their pids rise? Then how many they are.
+pub fn ages_ok(v: &Checked) -> Option<Count>
+    ensures { AgeCounts v.now.sizes v.now.bytes.now result }
+{
+    let mut at = v.get(field::OLDEST, 0);
+    let mut last = None;
+    let mut pid = 0;
+    let mut n = 0;
+    while let Some(i) = at {
+        if n == v.sizes.processes {
+            return None;
         }
-    }
-    Summed { ok: true, count: n }
-}
-
-// How many cells have an owner.
-pub fn count_owned(s: &[u8], z: Sizes) -> u32
-    requires { Whole z s.now }
-    ensures { result ≡ count_below z.cells (λ c. is_set (mem_in z s.now fields.owner c)) }
-{
-    let end = z.cells;
-    let mut n: u32 = 0;
-    let mut c: Index = 0;
-    while c < end {
-        let v = state::get16(s, z, state::CELL, state::OWNER, c);
-        n += if_set(v as u64) as u32;
-        c += 1;
-    }
-    n
-}
-
-// Do the links of the living by age run both ways, are all of them used, and do their pids rise? And how many are they?
-pub fn ages_ok(s: &[u8], z: Sizes) -> Counted
-    requires { Whole z s.now }
-    ensures { AgeCounts z s.now result.ok result.count }
-{
-    let most = z.processes;
-    let mut link = state::get16(s, z, state::HEADER, state::OLDEST, 0);
-    let mut last: Index = 0;
-    let mut pid: u64 = 0;
-    let mut n: Count = 0;
-    while link != 0 {
-        if n == most {
-            return NOT_COUNTED;
+        if v.get(field::OLDER, i) != last {
+            return None;
         }
-        let o = state::get16(s, z, state::PROCESS, state::OLDER, link - 1);
-        if o != last {
-            return NOT_COUNTED;
-        }
-        let p = state::get64(s, z, state::PROCESS, state::PID, link - 1);
+        let p = v.get(field::PID, i);
         if p <= pid {
-            return NOT_COUNTED;
+            return None;
         }
-        last = link;
+        last = at;
         pid = p;
-        link = state::get16(s, z, state::PROCESS, state::YOUNGER, link - 1);
+        at = v.get(field::YOUNGER, i);
         n += 1;
     }
-    let youngest = state::get16(s, z, state::HEADER, state::YOUNGEST, 0);
-    if last == youngest {
-        return Counted { ok: true, count: n };
+    if last == v.get(field::YOUNGEST, 0) {
+        Some(n)
+    } else {
+        None
     }
-    NOT_COUNTED
-}
-
-// How many records are used.
-pub fn count_living(s: &[u8], z: Sizes) -> Count
-    requires { Whole z s.now }
-    ensures { result ≡ count_below z.processes (λ i. is_set (mem_in z s.now fields.pid i)) }
-{
-    let end = z.processes;
-    let mut n: Count = 0;
-    let mut i: Index = 0;
-    while i < end {
-        let v = state::get64(s, z, state::PROCESS, state::PID, i);
-        n += if_set(v);
-        i += 1;
-    }
-    n
 }
 
 // Are the timers in order, and are those in their queue all that are queued?
-pub fn timer_facts(s: &[u8], z: Sizes) -> bool
-    requires { Whole z s.now }
-    ensures { Decides result (TimerFacts (sizes_in z) (mem_in z s.now)) }
+pub fn timer_facts(v: &Checked) -> bool
+    ensures { IsTrue result ↔ TimerFacts (sizes_in v.now.sizes) (mem_in v.now.sizes v.now.bytes.now) }
 {
-    if timers_ok(s, z) {
-        let q = timer_queue_ok(s, z);
-        let ok = q.ok;
-        let n = q.count;
-        if ok {
-            let all = count_queued(s, z);
-            if n == all {
-                return true;
-            }
-        }
-    }
-    false
+    timers_ok(v)
+        && timer_queue_ok(v)
+            == Some(count_set(v, field::IS_QUEUED, v.sizes.timers + v.sizes.processes))
 }
 
 // Are the exits in order, and are their cells all that have an owner?
-pub fn exit_facts(s: &[u8], z: Sizes) -> bool
-    requires { Whole z s.now }
-    ensures { Decides result (ExitFacts (sizes_in z) (mem_in z s.now)) }
+pub fn exit_facts(v: &Checked) -> bool
+    ensures { IsTrue result ↔ ExitFacts (sizes_in v.now.sizes) (mem_in v.now.sizes v.now.bytes.now) }
 {
-    let e = all_exits_ok(s, z);
-    let ok = e.ok;
-    let n = e.count;
-    if ok {
-        let all = count_owned(s, z);
-        if n == all {
-            return true;
-        }
-    }
-    false
+    all_exits_ok(v) == Some(u32::from(count_set(v, field::OWNER, v.sizes.cells)))
 }
 
 // Are the living by age in order, and are they all the records that are used?
-pub fn age_facts(s: &[u8], z: Sizes) -> bool
-    requires { Whole z s.now }
-    ensures { Decides result (AgeFacts (sizes_in z) (mem_in z s.now)) }
+pub fn age_facts(v: &Checked) -> bool
+    ensures { IsTrue result ↔ AgeFacts (sizes_in v.now.sizes) (mem_in v.now.sizes v.now.bytes.now) }
 {
-    let a = ages_ok(s, z);
-    let ok = a.ok;
-    let n = a.count;
-    if ok {
-        let all = count_living(s, z);
-        if n == all {
-            return true;
-        }
-    }
-    false
+    ages_ok(v) == Some(count_set(v, field::PID, v.sizes.processes))
 }
 
 // Are the timers, the exits and the living by age in order?
-pub fn queues_ok(s: &[u8], z: Sizes) -> bool
-    requires { Whole z s.now }
-    ensures { Decides result (QueueFacts (sizes_in z) (mem_in z s.now)) }
+pub fn queues_ok(v: &Checked) -> bool
+    ensures { IsTrue result ↔ QueueFacts (sizes_in v.now.sizes) (mem_in v.now.sizes v.now.bytes.now) }
 {
-    if timer_facts(s, z) {
-        if exit_facts(s, z) {
-            if age_facts(s, z) {
-                return true;
-            }
-        }
-    }
-    false
+    timer_facts(v) && (exit_facts(v) && age_facts(v))
 }

@@ -1,20 +1,10 @@
--- `idle::timers_ok` meets its contract: the timers below t have no link where they are off the queue. The measure is how many are left.
+-- `idle::timers_ok` meets its contract: by the test of one.
 use Rattle.std.specs.Prelude.{refl}
-use Rattle.rules.specs.Loop.{pass_start, pass_more, pass_end, passed, failed}
-use Rattle.std.proofs.lemmas.Bool.{not_from_true}
-use Rattle.std.proofs.lemmas.Bool.{not_from_false}
+use Rattle.std.proofs.Common.{rules}
+use Rattle.state.specs.Places.{mem_in}
+use Rattle.rules.specs.Below.{all_below_by}
+use Rattle.idle.specs.Idle.{TimerIdle}
 use Rattle.idle.proofs.timers_ok.Goals as goal
 
-pub loop-t-init : goal.loop-t-init
-loop-t-init c = search pass_start
-
-pub returns-then-not-timer_ok : goal.returns-then-not-timer_ok
-returns-then-not-timer_ok c = λ h. failed c.timer_ok.result c.timer_ok.ensures (not_from_false _ c.if-not-timer_ok.true) (h _ c.loop-t-test.true)
-
-pub loop-t-preserved : goal.loop-t-preserved
-loop-t-preserved c =
-    pass_more c.loop-t.invariant c.loop-t-test.true
-    (passed c.timer_ok.result c.timer_ok.ensures (not_from_true _ c.if-not-timer_ok.false)) refl
-
 pub returns : goal.returns
-returns c = pass_end c.loop-t.invariant c.loop-t-test.false
+returns c = all_below_by _ (TimerIdle (mem_in c.args.v.now.sizes c.args.v.now.bytes.now)) refl c.all.ensures.ran (λ x q k. search rules) (λ x q k. search rules)

@@ -1,17 +1,12 @@
--- `index::full_word` meets its contract: the bits from b up have made the word.
-use Rattle.index.specs.Gather.{gather_start, gather_small, gather_more}
-use Rattle.index.specs.Full.{full-end}
-use Rattle.std.proofs.Common.{rules}
+-- `index::full_word` meets its contract: the words past the n-th are not full.
+use Rattle.std.specs.Prelude.{◌+◌}
+use Rattle.std.proofs.Common.{◌∙◌, rules, tests}
+use Rattle.state.specs.Regions.{slot_of}
+use Rattle.index.specs.Bits.{span-end}
+use Rattle.index.specs.Words.{full_bit}
 use Rattle.index.proofs.full_word.Goals as goal
 
-pub loop-b-init : goal.loop-b-init
-loop-b-init c = search (gather_start, rules)
-
-pub with_bit-word-requires : goal.with_bit-word-requires
-with_bit-word-requires c = search gather_small
-
-pub loop-b-preserved : goal.loop-b-preserved
-loop-b-preserved c = search gather_more
-
 pub returns : goal.returns
-returns c = search full-end
+returns c =
+    c.word_of.ensures (full_bit c.args.v.now.sizes c.args.v.now.bytes.now (slot_of c.args.words 8) c.args.base) (λ k t l e. search (rules, tests))
+    ∙ span-end c.span.ensures (λ k l. c.requires.reach.past (c.args.base + k) l)

@@ -1,34 +1,22 @@
--- `index::index_ok` meets its contract, by each way out.
-use Rattle.index.specs.Compare.{compared_in}
-use Rattle.index.specs.Full.{full_records_lem, full-words}
-use Rattle.index.specs.Words.{index-records, index-cells, index-words, index-full_records, index-full_cells, index-yes}
-use Rattle.std.proofs.Common.{rules}
-use Rattle.std.proofs.lemmas.Bool.{not_from_true}
+-- `index::index_ok` meets its contract, by its three parts.
+use Rattle.rules.specs.Reach.{records-few, cells-few}
+use Rattle.index.specs.Words.{index-all, index-full}
 use Rattle.index.proofs.index_ok.Goals as goal
 
-pub returns-then-not-record_words_ok : goal.returns-then-not-record_words_ok
-returns-then-not-record_words_ok c = search index-records
+pub full_ok-requires : goal.full_ok-requires
+full_ok-requires c =
+    record {
+      few_records = rw c.view-v.ensures.sizes (records-few c.args.v.now.whole);
+      few_cells = rw c.view-v.ensures.sizes (cells-few c.args.v.now.whole);
+      long = c.view-v.result.long;
+      records = c.used_ok.ensures.0 c.if-used_ok.true;
+      cells = c.used_ok-then-used_ok.ensures.0 c.if-used_ok-2.true;
+    }
 
-pub returns-then-not-cell_words_ok : goal.returns-then-not-cell_words_ok
-returns-then-not-cell_words_ok c = search index-cells
-
-pub full_words_ok-requires : goal.full_words_ok-requires
-full_words_ok-requires c = (search rules, compared_in c.cell_words_ok.ensures (not_from_true _ c.if-not-cell_words_ok.false))
-
-pub returns-then-not-full_words_ok : goal.returns-then-not-full_words_ok
-returns-then-not-full_words_ok c = search index-words
-
-pub full_word-x-requires : goal.full_word-x-requires
-full_word-x-requires c = (full_records_lem c.requires c.record_words_ok.ensures (not_from_true _ c.if-not-record_words_ok.false) c.words_for-n.ensures, search rules)
-
-pub returns-then-v-x : goal.returns-then-v-x
-returns-then-v-x c = search index-full_records
-
-pub full_word-u-requires : goal.full_word-u-requires
-full_word-u-requires c = (search full-words, search rules)
-
-pub returns-then-y-u : goal.returns-then-y-u
-returns-then-y-u c = search index-full_cells
-
-pub returns : goal.returns
-returns c = search index-yes
+pub returns-then-used_ok-2 : goal.returns-then-used_ok-2
+returns-then-used_ok-2 c = (
+  λ t.
+      rw (c.view-v.ensures.sizes, c.view-v.ensures.bytes)
+      at (index-all (c.used_ok.ensures.0 c.if-used_ok.true) (c.used_ok-then-used_ok.ensures.0 c.if-used_ok-2.true) (c.full_ok.ensures.0 t)),
+  λ i. c.full_ok.ensures.1 (index-full (rw (← c.view-v.ensures.sizes, ← c.view-v.ensures.bytes) at i)),
+)

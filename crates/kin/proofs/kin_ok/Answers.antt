@@ -1,11 +1,10 @@
--- `kin::kin_ok` meets its contract, by each way out.
-use Rattle.kin.specs.Kin.{kin-no, kin-all}
-use Rattle.std.proofs.lemmas.Bool.{not_from_true}
-use Rattle.std.proofs.lemmas.Bool.{not_from_false}
+-- `kin::kin_ok` meets its contract, by its two parts.
+use Rattle.kin.specs.Kin.{kin-all, kin-children}
 use Rattle.kin.proofs.kin_ok.Goals as goal
 
-pub returns-then-not-living_ok : goal.returns-then-not-living_ok
-returns-then-not-living_ok c = (kin-no c.living_ok.ensures (not_from_false _ c.if-not-living_ok.true)).answer
+pub returns-then-parents_ok : goal.returns-then-parents_ok
+returns-then-parents_ok c =
+    (λ t. kin-all (λ i l. (c.parents_ok.ensures.0 c.if-parents_ok.true i l).named) (c.child_counts_ok.ensures.0 t), λ k. c.child_counts_ok.ensures.1 (kin-children k))
 
-pub returns : goal.returns
-returns c = (kin-all c.living_ok.ensures (not_from_true _ c.if-not-living_ok.false) c.nchild_ok.ensures).answer
+pub returns-else-parents_ok : goal.returns-else-parents_ok
+returns-else-parents_ok c = (λ t. absurd (cc), λ k. c.parents_ok.ensures.1 (λ i l. record { named = k.kin i l }))

@@ -1,10 +1,8 @@
--- `listing::begin` meets its contract.
+-- `listing::begin` meets its contract: the text is the first line.
 use Rattle.machine.specs.Basics.{ascii}
 use Rattle.machine.specs.Listing.{header}
-use Rattle.listing.specs.Finish.{begin-put}
-use Rattle.std.specs.Prelude.{refl}
 use Rattle.listing.proofs.begin.Goals as goal
 
-pub returns : goal.returns
+pub returns-clause-put : goal.returns-clause-put
 unfolding ascii header
-returns c = begin-put c.requires refl c.keep.ensures
+returns-clause-put c = c.text.ensures.put

@@ -1,15 +1,19 @@
--- `listing::line_end` meets its contract: no line ends before `i`. The measure is what is left of the chunk.
-use Rattle.listing.specs.Pieces.{seek_start, seek_more, seek_none, seek_found}
+-- `listing::line_end` meets its contract: what the place of the first line end says.
+use Rattle.std.specs.Prelude.{◌≡◌, ◌==◌, List, ℕ, ◌-◌, ◌≤◌, length, take, drop, Option, MatchOption, position}
+use Rattle.std.specs.Prelude.{◌+◌}
+use Rattle.std.proofs.Common.{ap, ◌∙◌, arith, take_all, length-drop}
+use Rattle.listing.specs.Pieces.{LineEnd, line_ends}
 use Rattle.listing.proofs.line_end.Goals as goal
 
-pub loop-i-init : goal.loop-i-init
-loop-i-init c = search seek_start
+-- The place in the rest of a chunk.
+place : (chunk : List ℕ) (from : ℕ) (o : Option ℕ) → from ≤ length chunk → o ≡ position (λ (b : ℕ). b == 10) (take (length chunk - from) (drop from chunk))
+    → MatchOption o (LineEnd chunk from (length chunk)) (λ i. LineEnd chunk from (from + i))
+place chunk from o h e =
+    let d : take (length chunk - from) (drop from chunk) ≡ drop from chunk = take_all (length chunk - from) (drop from chunk) (omega (arith, length-drop from chunk)) in
+    line_ends chunk from o h (e ∙ ap (λ (xs : List ℕ). position (λ (b : ℕ). b == 10) xs) d)
 
-pub loop-i-preserved : goal.loop-i-preserved
-loop-i-preserved c = search seek_more
+pub returns-in-Some : goal.returns-in-Some
+returns-in-Some c = rw c.in-Some.is at (place c.args.chunk.now c.args.from c.newline.result c.requires c.newline.ensures)
 
-pub returns-else-chunk-i-ne10 : goal.returns-else-chunk-i-ne10
-returns-else-chunk-i-ne10 c = search seek_found
-
-pub returns-after-loop-i : goal.returns-after-loop-i
-returns-after-loop-i c = search seek_none
+pub returns-in-None : goal.returns-in-None
+returns-in-None c = rw c.in-None.is at (place c.args.chunk.now c.args.from c.newline.result c.requires c.newline.ensures)

@@ -1,20 +1,16 @@
 -- `make::make` meets its contract, by each way out.
-use Rattle.make.specs.Answers.{sizes-all, make-counts, make-hz, make-short, make-done}
-use Rattle.std.proofs.lemmas.Bool.{not_from_true}
+use Rattle.make.specs.Answers.{sizes-ranged, make-unfit, make-short, make-done}
+use Rattle.std.proofs.Common.{rules}
 use Rattle.make.proofs.make.Goals as goal
 
-pub returns-then-not-counts_fit : goal.returns-then-not-counts_fit
-returns-then-not-counts_fit c = search make-counts
+pub returns-in_default : goal.returns-in_default
+returns-in_default c = make-unfit c.in_default.ensures
 
-pub returns-then-not-within : goal.returns-then-not-within
-returns-then-not-within c = search make-hz
+pub returns-then-s-total : goal.returns-then-s-total
+returns-then-s-total c = make-short c.in-Some.sizes c.in-Some.ensures c.total.ensures.value c.if-s-total.true
 
-pub sizes_of-z-requires : goal.sizes_of-z-requires
-sizes_of-z-requires c =
-    sizes-all c.counts_fit.ensures (not_from_true _ c.if-not-counts_fit.false) c.within.ensures (not_from_true _ c.if-not-within.false)
-
-pub returns-then-s-n : goal.returns-then-s-n
-returns-then-s-n c = search make-short
+pub fill-requires : goal.fill-requires
+fill-requires c = sizes-ranged c.args.p c.args.r c.args.q c.args.k c.args.c c.args.hz c.in-Some.sizes c.in-Some.ensures
 
 pub returns : goal.returns
-returns c = search make-done
+returns c = make-done c.in-Some.sizes c.in-Some.ensures c.total.ensures.value c.if-s-total.false (search rules)

@@ -1,12 +1,9 @@
 -- `make::size` meets its contract, by each way out.
-use Rattle.make.specs.Answers.{sizes_any, size-no, size-yes}
+use Rattle.make.specs.Answers.{size-no, size-yes}
 use Rattle.make.proofs.size.Goals as goal
 
-pub returns-then-not-counts_fit : goal.returns-then-not-counts_fit
-returns-then-not-counts_fit c = search size-no
+pub returns-in-None : goal.returns-in-None
+returns-in-None c = size-no c.in-None.ensures
 
-pub sizes_of-z-requires : goal.sizes_of-z-requires
-sizes_of-z-requires c = search sizes_any
-
-pub returns : goal.returns
-returns c = search size-yes
+pub returns-in-Some : goal.returns-in-Some
+returns-in-Some c = size-yes c.in-Some.sizes c.in-Some.ensures c.total.ensures.value

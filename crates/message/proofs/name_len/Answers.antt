@@ -1,15 +1,12 @@
--- `message::name_len` meets its contract: no byte passed is zero. The measure is what is left of the name.
-use Rattle.message.specs.Text.{name-start, name-more, name-zero, name-end}
+-- `message::name_len` meets its contract: the first zero byte, or the end.
+use Rattle.std.proofs.Common.{rules, tests}
+use Rattle.std.proofs.lemmas.Iterator.{YieldsList-from_slice}
+use Rattle.std.proofs.lemmas.Iterator.Search.{position_from_yields_List}
+use Rattle.message.specs.Text.{name-ends}
 use Rattle.message.proofs.name_len.Goals as goal
 
-pub loop-i-init : goal.loop-i-init
-loop-i-init c = search name-start
-
-pub returns-then-name-i-eq0 : goal.returns-then-name-i-eq0
-returns-then-name-i-eq0 c = search name-zero
-
-pub loop-i-preserved : goal.loop-i-preserved
-loop-i-preserved c = search name-more
-
 pub returns : goal.returns
-returns c = search name-end
+returns c =
+    name-ends
+    (position_from_yields_List _ _ _ _ c.position-zero.ensures.ran (YieldsList-from_slice c.args.name.now cc) (λ x b q k. search (rules, tests)))
+    c.unwrap_or.ensures

@@ -6,11 +6,12 @@ use Rattle.message.proofs.write_message.Goals as goal
 pub returns-then-status-eq0 : goal.returns-then-status-eq0
 returns-then-status-eq0 c = search written_none
 
-pub slice_bounds-front-end : goal.slice_bounds-front-end
-slice_bounds-front-end c = search ends-length
+pub slice_bounds-text-end : goal.slice_bounds-text-end
+slice_bounds-text-end c = search ends-length
 
 pub cut_len-n-requires : goal.cut_len-n-requires
 cut_len-n-requires c = search parts_fit
 
 pub returns : goal.returns
-returns c = search written-some
+returns c =
+    written-some c.if-status-eq0.false c.of-digits.ensures c.as_bytes.ensures c.name_len-end.ensures c.cut_len-n.ensures c.copy.ensures

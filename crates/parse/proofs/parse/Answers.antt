@@ -1,18 +1,18 @@
 -- `parse::parse` meets its contract: each return cites its law.
-use Rattle.parse.specs.Marked.{marked-long, parsed-long, parsed-marked, parsed-plain}
+use Rattle.std.proofs.Common.{arith}
+use Rattle.parse.specs.Parsed.{parsed-long, parsed-marked, parsed-plain}
 use Rattle.parse.proofs.parse.Goals as goal
 
 pub returns-then-line-gt4096 : goal.returns-then-line-gt4096
-returns-then-line-gt4096 c = search parsed-long
+returns-then-line-gt4096 c = parsed-long c.args.line.now (omega arith)
 
-pub slice_bounds-body-count : goal.slice_bounds-body-count
-slice_bounds-body-count c = search marked-long
+pub returns-in-Some : goal.returns-in-Some
+returns-in-Some c =
+    let prefix = rw c.as_slice.ensures at c.in-Some.ensures.cases.0 in
+    let rest = rw c.as_slice.ensures at c.in-Some.ensures.cases.1 in
+    parsed-marked c.args.line.now _ _ _ (omega arith) prefix (rw rest at c.body.ensures)
 
-pub slice_bounds-body-start : goal.slice_bounds-body-start
-slice_bounds-body-start c = search marked-long
-
-pub returns-then-marked : goal.returns-then-marked
-returns-then-marked c = search parsed-marked
-
-pub returns : goal.returns
-returns c = search parsed-plain
+pub returns-in-None : goal.returns-in-None
+returns-in-None c =
+    let prefix = rw c.as_slice.ensures at c.in-None.ensures.cases in
+    parsed-plain c.args.line.now _ _ _ (omega arith) prefix c.body-in-None.ensures

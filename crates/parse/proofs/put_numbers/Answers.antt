@@ -3,4 +3,4 @@ use Rattle.parse.specs.Puts.{numbers-put}
 use Rattle.parse.proofs.put_numbers.Goals as goal
 
 pub returns : goal.returns
-returns c = search numbers-put
+returns c = numbers-put c.requires c.put_head.ensures c.store.ensures

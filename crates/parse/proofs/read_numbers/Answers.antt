@@ -1,18 +1,33 @@
--- `parse::read_numbers` meets its contract: the numbers so far are there, and the line goes on at `at`. The measure is how many are left.
-use Rattle.parse.specs.Filled.{filling_start, filling_more, filled-short, filled_none, filled-end}
+-- `parse::read_numbers` meets its contract: the numbers so far are there, and `rest` follows them.
+use Rattle.std.proofs.Common.{ap, arith}
+use Rattle.parse.specs.Words.{rest_of}
+use Rattle.parse.specs.Fields.{filling_start, filled-few, filled-end, filled-many, filled-none, filling_more}
 use Rattle.parse.proofs.read_numbers.Goals as goal
 
-pub loop-j-init : goal.loop-j-init
-loop-j-init c = search filling_start
+pub loop-n-init : goal.loop-n-init
+loop-n-init c = filling_start
 
-pub returns-then-line-at : goal.returns-then-line-at
-returns-then-line-at c = search filled-short
+pub returns-in_err-rest-clause-unread : goal.returns-in_err-rest-clause-unread
+returns-in_err-rest-clause-unread c =
+    let e = c.in_err-rest.was in
+    rw c.from_residual.ensures (filled-few c.loop-n.invariant c.loop-n.auto.numbers (omega arith) (ap rest_of e))
 
-pub returns-then-end-at : goal.returns-then-end-at
-returns-then-end-at c = search filled_none
+pub returns-in_err-n-clause-unread : goal.returns-in_err-n-clause-unread
+returns-in_err-n-clause-unread c =
+    let e = c.in_ok-rest.was in
+    let n = c.in_err-n.ensures in
+    rw c.from_residual-in_err-n.ensures
+    (filled-none c.loop-n.invariant c.loop-n.auto.numbers _ (ap rest_of e) (rw c.split.ensures.word at n))
 
-pub loop-j-preserved : goal.loop-j-preserved
-loop-j-preserved c = search filling_more
+pub loop-n-preserved : goal.loop-n-preserved
+loop-n-preserved c =
+    let e = c.in_ok-rest.was in
+    let n = c.in_ok-n.ensures in
+    rw c.split.ensures.rest
+    (filling_more c.loop-n.invariant c.loop-n.auto.numbers _ (ap rest_of e) (omega arith) (rw c.split.ensures.word at n))
 
-pub returns : goal.returns
-returns c = search filled-end
+pub returns-in-None-clause-read : goal.returns-in-None-clause-read
+returns-in-None-clause-read c = filled-end c.loop-n.invariant c.loop-n.auto.numbers (omega arith) (ap rest_of c.in-None.is)
+
+pub returns-in-Some-clause-unread : goal.returns-in-Some-clause-unread
+returns-in-Some-clause-unread c = filled-many c.loop-n.invariant c.loop-n.auto.numbers _ (ap rest_of c.in-Some.is) (omega arith)

@@ -1,10 +1,7 @@
--- `parse::read_numbers` meets its contract: the numbers so far are there, and the line goes on at `at`. The measure is how many are left.
-use Rattle.parse.specs.Filled.{Filling}
-use Rattle.std.specs.Prelude.{◌-◌}
+-- `parse::read_numbers` meets its contract: the numbers so far are there, and `rest` follows them.
+use Rattle.parse.specs.Fields.{Filling}
+use Rattle.parse.specs.Words.{rest_of}
 use Rattle.parse.proofs.read_numbers.Given as goal
 
-abbrev pub invariant-loop-j : goal.invariant-loop-j
-invariant-loop-j l = Filling l.line l.from l.n l.fields l.at l.j
-
-abbrev pub decreases-loop-j : goal.decreases-loop-j
-decreases-loop-j l = l.n - l.j
+abbrev pub invariant-loop-n : goal.invariant-loop-n
+invariant-loop-n l = Filling (rest_of l.initial.rest) l.numbers l.n-index (rest_of l.rest)

@@ -1,10 +1,6 @@
--- `parse::store` meets its contract: the first `j` numbers are there. The measure is how many are left.
-use Rattle.parse.specs.Stores.{Storing}
-use Rattle.std.specs.Prelude.{◌-◌}
+-- `parse::store` meets its contract: the first `j` numbers are there.
+use Rattle.parse.specs.Puts.{Storing}
 use Rattle.parse.proofs.store.Given as goal
 
 abbrev pub invariant-loop-j : goal.invariant-loop-j
-invariant-loop-j l = Storing l.fields l.n l.initial.out l.out l.j
-
-abbrev pub decreases-loop-j : goal.decreases-loop-j
-decreases-loop-j l = l.n - l.j
+invariant-loop-j l = Storing l.numbers l.initial.out l.out l.j

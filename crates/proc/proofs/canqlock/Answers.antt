@@ -1,10 +1,13 @@
 -- `proc::canqlock` meets its contract: each need by its law.
+use Rattle.std.proofs.lemmas.Result.{err_from_is_err_and}
 use Rattle.proc.specs.Outside.{canqlock-outside}
-use Rattle.proc.specs.Plain.{took-plain}
+use Rattle.proc.specs.Plain.{canqlock-plain}
 use Rattle.proc.proofs.canqlock.Goals as goal
 
-pub returns-then-lock-z : goal.returns-then-lock-z
-returns-then-lock-z c = search canqlock-outside
+pub returns-in_err-q-clause-done : goal.returns-in_err-q-clause-done
+returns-in_err-q-clause-done c =
+    let p = err_from_is_err_and c.from_residual.result c.from_residual.ensures.1 in
+    rw (p.1, p.2) (canqlock-outside c.requires c.in_err-q.ensures.err)
 
-pub returns : goal.returns
-returns c = search took-plain
+pub returns-clause-done : goal.returns-clause-done
+returns-clause-done c = canqlock-plain c.in_ok-q.ensures.ok c.canqlock.ensures.done

@@ -2,5 +2,5 @@
 use Rattle.proc.specs.Outside.{name-outside}
 use Rattle.proc.proofs.name.Goals as goal
 
-pub returns-then-bytes-gt28 : goal.returns-then-bytes-gt28
-returns-then-bytes-gt28 c = search name-outside
+pub returns-then-bytes-gt28-clause-done : goal.returns-then-bytes-gt28-clause-done
+returns-then-bytes-gt28-clause-done c = search name-outside

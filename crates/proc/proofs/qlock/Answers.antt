@@ -1,6 +1,13 @@
 -- `proc::qlock` meets its contract: each need by its law.
+use Rattle.std.proofs.lemmas.Result.{err_from_is_err_and}
 use Rattle.proc.specs.Outside.{qlock-outside}
+use Rattle.proc.specs.Plain.{qlock-plain}
 use Rattle.proc.proofs.qlock.Goals as goal
 
-pub returns-then-lock-z : goal.returns-then-lock-z
-returns-then-lock-z c = search qlock-outside
+pub returns-in_err-q-clause-done : goal.returns-in_err-q-clause-done
+returns-in_err-q-clause-done c =
+    let p = err_from_is_err_and c.from_residual.result c.from_residual.ensures.1 in
+    rw (p.1, p.2) (qlock-outside c.requires c.in_err-q.ensures.err)
+
+pub returns-clause-done : goal.returns-clause-done
+returns-clause-done c = qlock-plain c.in_ok-q.ensures.ok c.qlock.ensures.done

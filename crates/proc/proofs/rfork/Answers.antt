@@ -1,9 +1,16 @@
 -- `proc::rfork` meets its contract: each need by its law.
+use Rattle.std.proofs.lemmas.Result.{err_from_is_err_and}
 use Rattle.proc.specs.Outside.{rfork-flags, rfork_how}
+use Rattle.proc.specs.Plain.{rfork-plain}
 use Rattle.proc.proofs.rfork.Goals as goal
 
-pub returns-then-flags-gt4294967295 : goal.returns-then-flags-gt4294967295
-returns-then-flags-gt4294967295 c = search rfork-flags
+pub returns-then-flags-gt4294967295-clause-done : goal.returns-then-flags-gt4294967295-clause-done
+returns-then-flags-gt4294967295-clause-done c = search rfork-flags
 
-pub returns-then-how-gt3 : goal.returns-then-how-gt3
-returns-then-how-gt3 c = search rfork_how
+pub returns-in_err-how-clause-done : goal.returns-in_err-how-clause-done
+returns-in_err-how-clause-done c =
+    let p = err_from_is_err_and c.from_residual.result c.from_residual.ensures.1 in
+    rw (p.1, p.2) (rfork_how c.requires c.in_err-how.ensures)
+
+pub returns-clause-done : goal.returns-clause-done
+returns-clause-done c = rfork-plain _ c.in_ok-how.ensures c.rfork.ensures.done

@@ -1,13 +1,13 @@
 -- `proc::tdel` meets its contract: each need by its law.
-use Rattle.proc.specs.Outside.{tdel-first, tdel-timer}
-use Rattle.proc.specs.Plain.{took-plain}
+use Rattle.std.proofs.lemmas.Result.{err_from_is_err_and}
+use Rattle.proc.specs.Outside.{tdel-outside}
+use Rattle.proc.specs.Plain.{tdel-plain}
 use Rattle.proc.proofs.tdel.Goals as goal
 
-pub returns-then-timer-lt1 : goal.returns-then-timer-lt1
-returns-then-timer-lt1 c = search tdel-first
+pub returns-in_err-t-clause-done : goal.returns-in_err-t-clause-done
+returns-in_err-t-clause-done c =
+    let p = err_from_is_err_and c.from_residual.result c.from_residual.ensures.1 in
+    rw (p.1, p.2) (tdel-outside c.requires c.in_err-t.ensures.err)
 
-pub returns-then-timer-z : goal.returns-then-timer-z
-returns-then-timer-z c = search tdel-timer
-
-pub returns : goal.returns
-returns c = search took-plain
+pub returns-clause-done : goal.returns-clause-done
+returns-clause-done c = tdel-plain c.in_ok-t.ensures.ok c.tdel.ensures.done

@@ -1,10 +1,13 @@
 -- `proc::wakeup` meets its contract: each need by its law.
+use Rattle.std.proofs.lemmas.Result.{err_from_is_err_and}
 use Rattle.proc.specs.Outside.{wakeup-outside}
-use Rattle.proc.specs.Plain.{took-plain}
+use Rattle.proc.specs.Plain.{wakeup-plain}
 use Rattle.proc.proofs.wakeup.Goals as goal
 
-pub returns-then-rendez-z : goal.returns-then-rendez-z
-returns-then-rendez-z c = search wakeup-outside
+pub returns-in_err-r-clause-done : goal.returns-in_err-r-clause-done
+returns-in_err-r-clause-done c =
+    let p = err_from_is_err_and c.from_residual.result c.from_residual.ensures.1 in
+    rw (p.1, p.2) (wakeup-outside c.requires c.in_err-r.ensures.err)
 
-pub returns : goal.returns
-returns c = search took-plain
+pub returns-clause-done : goal.returns-clause-done
+returns-clause-done c = wakeup-plain c.in_ok-r.ensures.ok c.wakeup.ensures.done

@@ -1,19 +1,22 @@
 -- `proc_exit::depart` meets its contract: each need by its law.
+use Rattle.std.specs.Prelude.{refl}
 use Rattle.proc_exit.specs.Depart.{depart-load, depart-tell, departed_alone, departed-told}
-use Rattle.std.proofs.Common.{arith}
 use Rattle.proc_exit.proofs.depart.Goals as goal
 
 pub load-p-requires : goal.load-p-requires
-load-p-requires c = search depart-load
+load-p-requires c = rw c.view.ensures.sizes (depart-load c.requires).index
 
 pub tell_parent-requires : goal.tell_parent-requires
-tell_parent-requires c = search depart-tell
+tell_parent-requires c =
+    rw c.leave.ensures.same.sizes (depart-tell (rw c.in-Some.is at c.requires) c.leave.ensures.done)
 
-pub shape_of-s-then-link-ne0 : goal.shape_of-s-then-link-ne0
-shape_of-s-then-link-ne0 c = omega (arith, c.tell_parent.auto.s, c.leave.auto.s)
+pub returns-in-Some-clause-done : goal.returns-in-Some-clause-done
+returns-in-Some-clause-done c =
+    departed-told (rw c.in-Some.is at c.requires) c.leave.ensures.done
+    (rw (c.view.ensures.bytes, c.view.ensures.sizes) at c.load-p.ensures)
+    (rw c.leave.ensures.same.sizes at c.tell_parent.ensures.done)
 
-pub returns-then-link-ne0 : goal.returns-then-link-ne0
-returns-then-link-ne0 c = search departed-told
-
-pub returns-else-link-ne0 : goal.returns-else-link-ne0
-returns-else-link-ne0 c = search departed_alone
+pub returns-in_default-clause-done : goal.returns-in_default-clause-done
+returns-in_default-clause-done c =
+    departed_alone (rw c.in_default.is at c.requires) c.leave.ensures.done
+    (rw (c.view.ensures.bytes, c.view.ensures.sizes) at c.load-p.ensures) refl

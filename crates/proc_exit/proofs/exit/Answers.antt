@@ -1,16 +1,25 @@
 -- `proc_exit::exit` meets its contract: each need by its law.
-use Rattle.proc_exit.specs.Exit.{exit-marked, exit-nobody, exit-pexit, exit-rest}
+use Rattle.std.proofs.lemmas.Result.{err_from_is_err_and}
+use Rattle.proc_exit.specs.Exit.{exit-pexit, exit-refused, exit-rest}
 use Rattle.std.proofs.Common.{arith}
 use Rattle.proc_exit.proofs.exit.Goals as goal
 
-pub returns-then-in_interrupt : goal.returns-then-in_interrupt
-returns-then-in_interrupt c = exit-marked c.requires (λ k. omega (arith, c.shared_slice_known-1.given k)) c.if-in_interrupt.true
+pub running-requires : goal.running-requires
+running-requires c =
+    rw (c.view.ensures.bytes, c.view.ensures.sizes)
+    (record { sizes = c.requires.well.holds.sizes; long = c.requires.well.holds.state.long })
 
-pub returns-then-up-eq0 : goal.returns-then-up-eq0
-returns-then-up-eq0 c = exit-nobody c.requires (λ k. omega (arith, c.shared_slice_known-1.given k)) c.if-in_interrupt.false c.get16-up.ensures c.if-up-eq0.true
+pub returns-in_err-i-clause-done : goal.returns-in_err-i-clause-done
+returns-in_err-i-clause-done c =
+    let p = err_from_is_err_and c.from_residual.result c.from_residual.ensures.1 in
+    rw (p.1, p.2)
+    (exit-refused c.requires (λ k. omega (arith, c.shared_slice_known-1.given k))
+    (rw (c.view.ensures.bytes, c.view.ensures.sizes) at c.in_err-i.ensures.err))
 
 pub pexit-requires : goal.pexit-requires
-pexit-requires c = exit-pexit c.requires (λ k. omega (arith, c.shared_slice_known-1.given k)) c.get16-up.ensures c.if-up-eq0.false
+pexit-requires c =
+    exit-pexit c.requires (λ k. omega (arith, c.shared_slice_known-1.given k))
+    (rw (c.view.ensures.bytes, c.view.ensures.sizes) at c.in_ok-i.ensures.ok)
 
-pub returns : goal.returns
-returns c = search exit-rest
+pub returns-clause-done : goal.returns-clause-done
+returns-clause-done c = exit-rest (rw (c.view.ensures.bytes, c.view.ensures.sizes) at c.in_ok-i.ensures.ok) c.pexit.ensures.done

@@ -2,14 +2,19 @@
 use Rattle.proc_exit.specs.Leave.{leave-clear, leave-release, leave-stop, left}
 use Rattle.proc_exit.proofs.leave.Goals as goal
 
-pub free_exits-requires : goal.free_exits-requires
-free_exits-requires c = search leave-clear
+pub take_all-requires : goal.take_all-requires
+take_all-requires c = search leave-clear
 
 pub stop-requires : goal.stop-requires
-stop-requires c = search leave-stop
+stop-requires c = rw c.take_all.ensures.same.sizes (leave-stop c.requires c.take_all.ensures.cleared)
 
 pub release-requires : goal.release-requires
-release-requires c = search leave-release
+release-requires c =
+    let k = c.take_all.ensures.same.sizes in
+    rw (c.stop.ensures.same.sizes, k) (leave-release c.requires c.take_all.ensures.cleared (rw k at c.stop.ensures.done))
 
-pub returns : goal.returns
-returns c = search left
+pub returns-clause-done : goal.returns-clause-done
+returns-clause-done c =
+    let k = c.take_all.ensures.same.sizes in
+    left c.requires c.take_all.ensures.cleared (rw k at c.stop.ensures.done)
+    (rw (c.stop.ensures.same.sizes, k) at c.release.ensures.done)

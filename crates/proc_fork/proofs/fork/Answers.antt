@@ -2,8 +2,8 @@
 use Rattle.proc_fork.specs.Child.{fork_off, fork_own}
 use Rattle.proc_fork.proofs.fork.Goals as goal
 
-pub returns-then-off : goal.returns-then-off
-returns-then-off c = search fork_off
+pub returns-then-off-clause-done : goal.returns-then-off-clause-done
+returns-then-off-clause-done c = search fork_off
 
-pub returns-else-off : goal.returns-else-off
-returns-else-off c = search fork_own
+pub returns-else-off-clause-done : goal.returns-else-off-clause-done
+returns-else-off-clause-done c = search fork_own

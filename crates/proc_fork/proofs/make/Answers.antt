@@ -1,21 +1,33 @@
 -- `proc_fork::make` meets its contract: each need by its law.
-use Rattle.proc_fork.specs.Make.{make-done, make_find, make-fork, make-full, make-last, make_unmade}
+use Rattle.std.proofs.lemmas.Result.{err_from_is_err_and}
+use Rattle.proc_fork.specs.Make.{make-done, make-fork, make-full, make-spend, make_unmade}
 use Rattle.proc_fork.proofs.make.Goals as goal
 
-pub find_record-link-requires : goal.find_record-link-requires
-find_record-link-requires c = search make_find
+pub new_pid-requires : goal.new_pid-requires
+new_pid-requires c = rw (c.view.ensures.bytes, c.view.ensures.sizes) c.requires.well
 
-pub returns-then-link-eq0 : goal.returns-then-link-eq0
-returns-then-link-eq0 c = search make-full
+pub returns-in_err-pid-clause-done : goal.returns-in_err-pid-clause-done
+returns-in_err-pid-clause-done c =
+    let p = err_from_is_err_and c.from_residual.result c.from_residual.ensures.1 in
+    rw (p.1, p.2) (make-full c.requires (rw (c.view.ensures.bytes, c.view.ensures.sizes) at c.in_err-pid.ensures.err))
 
-pub returns-then-pid : goal.returns-then-pid
-returns-then-pid c = search make-last
+pub spend-requires : goal.spend-requires
+spend-requires c = make-spend c.requires (rw (c.view.ensures.bytes, c.view.ensures.sizes) at c.in_ok-pid.ensures.ok)
 
-pub returns-then-how-ne0 : goal.returns-then-how-ne0
-returns-then-how-ne0 c = search make_unmade
+pub returns-in_err-made-clause-done : goal.returns-in_err-made-clause-done
+returns-in_err-made-clause-done c =
+    let p = err_from_is_err_and c.from_residual-in_err-made.result c.from_residual-in_err-made.ensures.1 in
+    rw (p.1, p.2)
+    (make_unmade c.requires (rw (c.view.ensures.bytes, c.view.ensures.sizes) at c.in_ok-pid.ensures.ok) c.spend.ensures.done
+    c.in_err-made.ensures.err)
 
 pub fork-requires : goal.fork-requires
-fork-requires c = make-fork c.requires c.find_record-link.ensures c.if-link-eq0.false c.get64-pid.ensures c.if-pid.false
+fork-requires c =
+    rw c.spend.ensures.same.sizes
+    (make-fork c.requires (rw (c.view.ensures.bytes, c.view.ensures.sizes) at c.in_ok-pid.ensures.ok) c.spend.ensures.done
+    c.in_ok-made.ensures.ok)
 
-pub returns : goal.returns
-returns c = search make-done
+pub returns-clause-done : goal.returns-clause-done
+returns-clause-done c =
+    make-done c.requires (rw (c.view.ensures.bytes, c.view.ensures.sizes) at c.in_ok-pid.ensures.ok) c.spend.ensures.done
+    c.in_ok-made.ensures.ok c.has.ensures (rw c.spend.ensures.same.sizes at c.fork.ensures.done)

@@ -1,16 +1,25 @@
 -- `proc_fork::name` meets its contract: each need by its law.
-use Rattle.proc_fork.specs.Name.{name-asks, name_done, name-marked, name-nobody}
-use Rattle.std.proofs.Common.{rules, arith}
+use Rattle.std.proofs.lemmas.Result.{err_from_is_err_and}
+use Rattle.proc_fork.specs.Name.{name-asks, name_done, name-refused}
+use Rattle.std.proofs.Common.{arith}
 use Rattle.proc_fork.proofs.name.Goals as goal
 
-pub returns-then-in_interrupt : goal.returns-then-in_interrupt
-returns-then-in_interrupt c = search (rules, name-marked c.requires (λ k. omega (arith, c.shared_slice_known-1.given k)))
+pub running-requires : goal.running-requires
+running-requires c = rw (c.view.ensures.bytes, c.view.ensures.sizes) (record { sizes = c.requires.well.holds.sizes; long = c.requires.well.holds.state.long })
 
-pub returns-then-up-eq0 : goal.returns-then-up-eq0
-returns-then-up-eq0 c = search (rules, name-nobody c.requires (λ k. omega (arith, c.shared_slice_known-1.given k)))
+pub returns-in_err-i-clause-done : goal.returns-in_err-i-clause-done
+returns-in_err-i-clause-done c =
+    let p = err_from_is_err_and c.from_residual.result c.from_residual.ensures.1 in
+    rw (p.1, p.2)
+    (name-refused c.requires (λ k. omega (arith, c.shared_slice_known-1.given k))
+    (rw (c.view.ensures.bytes, c.view.ensures.sizes) at c.in_err-i.ensures.err))
 
 pub set_name-requires : goal.set_name-requires
-set_name-requires c = name-asks c.requires (λ k. omega (arith, c.shared_slice_known-1.given k)) c.get16-up.ensures c.if-up-eq0.false c.padded-text.ensures
+set_name-requires c =
+    name-asks c.requires (λ k. omega (arith, c.shared_slice_known-1.given k))
+    (rw (c.view.ensures.bytes, c.view.ensures.sizes) at c.in_ok-i.ensures.ok) c.padded.ensures
 
-pub returns : goal.returns
-returns c = search (rules, name_done c.requires (λ k. omega (arith, c.shared_slice_known-1.given k)))
+pub returns-clause-done : goal.returns-clause-done
+returns-clause-done c =
+    name_done c.requires (λ k. omega (arith, c.shared_slice_known-1.given k))
+    (rw (c.view.ensures.bytes, c.view.ensures.sizes) at c.in_ok-i.ensures.ok) c.padded.ensures c.set_name.ensures.done

@@ -2,14 +2,13 @@
 use Rattle.proc_intr.specs.Twakeup.{twakeup-wakes, twoken, twoken-other}
 use Rattle.proc_intr.proofs.twakeup.Goals as goal
 
-pub returns-then-call-ne-TSLEEP : goal.returns-then-call-ne-TSLEEP
-returns-then-call-ne-TSLEEP c = search twoken-other
+pub returns-in_default-clause-done : goal.returns-in_default-clause-done
+returns-in_default-clause-done c =
+    twoken-other c.requires (rw (c.view.ensures.bytes, c.view.ensures.sizes) at c.load-call.ensures) c.in_default.not-Tsleep
 
 pub wakeup-requires : goal.wakeup-requires
-wakeup-requires c =
-    twakeup-wakes c.requires c.get8-call.ensures
-    c.if-call-ne-TSLEEP.false
-    c.get16-r.ensures
+wakeup-requires c = twakeup-wakes c.requires (rw (c.view.ensures.bytes, c.view.ensures.sizes) at c.in-Tsleep.ensures)
 
-pub returns : goal.returns
-returns c = search twoken
+pub returns-clause-done : goal.returns-clause-done
+returns-clause-done c =
+    twoken c.requires (rw (c.view.ensures.bytes, c.view.ensures.sizes) at c.in-Tsleep.ensures) c.wakeup.ensures.done

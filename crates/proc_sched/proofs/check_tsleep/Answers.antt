@@ -5,22 +5,23 @@ use Rattle.std.proofs.lemmas.Bool.{not_from_true}
 use Rattle.proc_sched.proofs.check_tsleep.Goals as goal
 
 pub overflow_add-kernel : goal.overflow_add-kernel
-overflow_add-kernel c = omega (arith, tsleep-small)
+overflow_add-kernel c = rw c.view-v.ensures.sizes (omega (arith, tsleep-small c.requires))
 
 pub is_queued-queued-requires : goal.is_queued-queued-requires
-is_queued-queued-requires c = search tsleep-queued
+is_queued-queued-requires c = rw (c.view-v.ensures.bytes, c.view-v.ensures.sizes) (tsleep-queued c.requires)
 
-pub returns-then-not-queued : goal.returns-then-not-queued
-returns-then-not-queued c = search tsleep-fired
+pub returns-then-not-queued-clause-done : goal.returns-then-not-queued-clause-done
+returns-then-not-queued-clause-done c = search (tsleep-fired, rw (c.view-v.ensures.bytes, c.view-v.ensures.sizes) at c.is_queued-queued.ensures)
 
-pub returns-then-holds : goal.returns-then-holds
-returns-then-holds c = search tsleep-true
+pub returns-then-holds-clause-done : goal.returns-then-holds-clause-done
+returns-then-holds-clause-done c = search (tsleep-true, rw (c.view-v.ensures.bytes, c.view-v.ensures.sizes) at c.is_queued-queued.ensures, rw (c.view-v.ensures.bytes, c.view-v.ensures.sizes) at c.holds.ensures)
 
 pub sleep_again-requires : goal.sleep_again-requires
 sleep_again-requires c =
-    tsleep-again c.requires
-    c.is_queued-queued.ensures (not_from_true _ c.if-not-queued.false)
-    c.condition-holds.ensures c.if-holds.false
+    tsleep-again c.requires (rw (c.view-v.ensures.bytes, c.view-v.ensures.sizes) at c.is_queued-queued.ensures) (not_from_true _ c.if-not-queued.false)
+    (rw (c.view-v.ensures.bytes, c.view-v.ensures.sizes) at c.holds.ensures) c.if-holds.false
 
-pub returns : goal.returns
-returns c = search tsleep-sleeps
+pub returns-clause-done : goal.returns-clause-done
+returns-clause-done c =
+    tsleep-sleeps c.requires (rw (c.view-v.ensures.bytes, c.view-v.ensures.sizes) at c.is_queued-queued.ensures) (not_from_true _ c.if-not-queued.false)
+    (rw (c.view-v.ensures.bytes, c.view-v.ensures.sizes) at c.holds.ensures) c.if-holds.false c.sleep_again.ensures.done

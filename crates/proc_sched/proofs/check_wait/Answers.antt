@@ -3,11 +3,11 @@ use Rattle.proc_sched.specs.Waits.{wait-low, wait-finished, wait-slept}
 use Rattle.std.proofs.Common.{rules}
 use Rattle.proc_sched.proofs.check_wait.Goals as goal
 
-pub get8-nexits-requires : goal.get8-nexits-requires
-get8-nexits-requires c = search (rules, wait-low)
+pub get-nexits-requires : goal.get-nexits-requires
+get-nexits-requires c = search (rules, wait-low c.requires)
 
-pub returns-then-nexits-eq0 : goal.returns-then-nexits-eq0
-returns-then-nexits-eq0 c = search wait-slept
+pub returns-then-nexits-eq0-clause-done : goal.returns-then-nexits-eq0-clause-done
+returns-then-nexits-eq0-clause-done c = search wait-slept
 
-pub returns : goal.returns
-returns c = search wait-finished
+pub returns-clause-done : goal.returns-clause-done
+returns-clause-done c = search wait-finished

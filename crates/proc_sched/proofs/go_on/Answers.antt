@@ -11,17 +11,17 @@ check_tsleep-requires c = search go-tsleep
 pub check_wait-requires : goal.check_wait-requires
 check_wait-requires c = search go-wait
 
-pub returns-in-Nothing : goal.returns-in-Nothing
-returns-in-Nothing c = search went-nothing
+pub returns-in-Nothing-clause-done : goal.returns-in-Nothing-clause-done
+returns-in-Nothing-clause-done c = search went-nothing
 
-pub returns-in-Sleep : goal.returns-in-Sleep
-returns-in-Sleep c = search went-sleep
+pub returns-in-Sleep-clause-done : goal.returns-in-Sleep-clause-done
+returns-in-Sleep-clause-done c = search went-sleep
 
-pub returns-in-Tsleep : goal.returns-in-Tsleep
-returns-in-Tsleep c = search went-tsleep
+pub returns-in-Tsleep-clause-done : goal.returns-in-Tsleep-clause-done
+returns-in-Tsleep-clause-done c = search went-tsleep
 
-pub returns-in-Qlock : goal.returns-in-Qlock
-returns-in-Qlock c = search went-qlock
+pub returns-in-Qlock-clause-done : goal.returns-in-Qlock-clause-done
+returns-in-Qlock-clause-done c = search went-qlock
 
-pub returns-in-Wait : goal.returns-in-Wait
-returns-in-Wait c = search went-wait
+pub returns-in-Wait-clause-done : goal.returns-in-Wait-clause-done
+returns-in-Wait-clause-done c = search went-wait

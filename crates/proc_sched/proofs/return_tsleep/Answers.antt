@@ -7,13 +7,10 @@ pub overflow_add-kernel : goal.overflow_add-kernel
 overflow_add-kernel c = omega (arith, out_small)
 
 pub del-requires : goal.del-requires
-del-requires c = search out_del
+del-requires c = out_del c.requires
 
 pub run_on-requires : goal.run_on-requires
-run_on-requires c = search out_limbo
+run_on-requires c = rw c.del.ensures.same.sizes (out_limbo c.requires c.del.ensures.deleted)
 
-pub shape_of-s : goal.shape_of-s
-shape_of-s c = omega arith
-
-pub returns : goal.returns
-returns c = search out_runs
+pub returns-clause-done : goal.returns-clause-done
+returns-clause-done c = out_runs c.requires c.del.ensures.deleted (rw c.del.ensures.same.sizes at c.run_on.ensures.done)

@@ -2,5 +2,5 @@
 use Rattle.proc_sched.specs.Limbo.{slept-again}
 use Rattle.proc_sched.proofs.sleep_again.Goals as goal
 
-pub returns : goal.returns
-returns c = search slept-again
+pub returns-clause-done : goal.returns-clause-done
+returns-clause-done c = slept-again c.requires c.sleep_on.ensures.done

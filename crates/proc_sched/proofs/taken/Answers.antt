@@ -6,4 +6,4 @@ pub returns-then-holds : goal.returns-then-holds
 returns-then-holds c = search taken_yes
 
 pub returns : goal.returns
-returns c = search taken-no
+returns c = taken-no _ c.requires c.holds.ensures c.if-holds.false c.get.ensures.value c.is_some.ensures

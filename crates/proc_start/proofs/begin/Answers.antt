@@ -1,12 +1,9 @@
 -- `proc_start::begin` meets its contract: each need by its law.
-use Rattle.proc_start.specs.Begin.{begin-link, begin-ready, begun}
+use Rattle.proc_start.specs.Begin.{begin-ready, begun}
 use Rattle.proc_start.proofs.begin.Goals as goal
 
-pub overflow_sub-link : goal.overflow_sub-link
-overflow_sub-link c = search begin-link
-
 pub ready-requires : goal.ready-requires
-ready-requires c = search begin-ready
+ready-requires c = rw c.in-Some.ensures.same.sizes (begin-ready c.requires c.in-Some.ensures.done)
 
-pub returns : goal.returns
-returns c = search begun
+pub returns-clause-done : goal.returns-clause-done
+returns-clause-done c = begun c.requires c.in-Some.ensures.done (rw c.in-Some.ensures.same.sizes at c.ready.ensures.done)

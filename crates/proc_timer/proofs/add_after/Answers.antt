@@ -1,6 +1,9 @@
 -- `proc_timer::add_after` meets its contract: each need by its law.
-use Rattle.proc_timer.specs.After.{added-after}
+use Rattle.proc_timer.specs.After.{added-after, after-add}
 use Rattle.proc_timer.proofs.add_after.Goals as goal
 
-pub returns : goal.returns
-returns c = search added-after
+pub add-requires : goal.add-requires
+add-requires c = rw c.set_now.ensures.same.sizes (after-add c.requires c.set_now.ensures.became)
+
+pub returns-clause-done : goal.returns-clause-done
+returns-clause-done c = added-after c.set_now.ensures.became (rw c.set_now.ensures.same.sizes at c.add.ensures.added)

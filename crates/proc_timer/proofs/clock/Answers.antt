@@ -2,11 +2,15 @@
 use Rattle.proc_timer.specs.Clock.{clock_8, clock-done, first-asks}
 use Rattle.proc_timer.proofs.clock.Goals as goal
 
-pub returns-then-bad_now : goal.returns-then-bad_now
-returns-then-bad_now c = search clock_8
+pub returns-then-bad_now-clause-done : goal.returns-then-bad_now-clause-done
+returns-then-bad_now-clause-done c =
+    clock_8 c.requires c.ranges.reading (rw (c.view.ensures.bytes, c.view.ensures.sizes) at c.bad_now.ensures) c.if-bad_now.true
 
 pub add_after-requires : goal.add_after-requires
-add_after-requires c = search first-asks
+add_after-requires c =
+    first-asks c.requires (rw (c.view.ensures.bytes, c.view.ensures.sizes) at c.bad_now.ensures) c.if-bad_now.false c.get-period.ensures.value
 
-pub returns : goal.returns
-returns c = search clock-done
+pub returns-clause-done : goal.returns-clause-done
+returns-clause-done c =
+    clock-done c.requires c.ranges.reading (rw (c.view.ensures.bytes, c.view.ensures.sizes) at c.bad_now.ensures) c.if-bad_now.false c.get-period.ensures.value
+    c.add_after.ensures.done

@@ -2,8 +2,8 @@
 use Rattle.proc_timer.specs.Set.{period-each, period-once}
 use Rattle.proc_timer.proofs.period_of.Goals as goal
 
-pub returns-then-kind-eq-RELATIVE : goal.returns-then-kind-eq-RELATIVE
-returns-then-kind-eq-RELATIVE c = search period-once
+pub returns-in-Relative : goal.returns-in-Relative
+returns-in-Relative c = search period-once
 
-pub returns : goal.returns
-returns c = search period-each
+pub returns-in-Periodic : goal.returns-in-Periodic
+returns-in-Periodic c = search period-each

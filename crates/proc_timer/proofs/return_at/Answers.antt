@@ -6,7 +6,8 @@ pub overflow_add-own : goal.overflow_add-own
 overflow_add-own c = search own-fits
 
 pub del-requires : goal.del-requires
-del-requires c = search return_asks
+del-requires c = rw c.set_now.ensures.same.sizes (return_asks c.requires c.set_now.ensures.became)
 
-pub returns : goal.returns
-returns c = search returned
+pub returns-clause-done : goal.returns-clause-done
+returns-clause-done c =
+    returned c.requires c.set_now.ensures.became (rw c.set_now.ensures.same.sizes at c.del.ensures.deleted)

@@ -6,7 +6,8 @@ pub set_timer-requires : goal.set_timer-requires
 set_timer-requires c = search set-asks
 
 pub add_after-requires : goal.add_after-requires
-add_after-requires c = search set_after-asks
+add_after-requires c = rw c.set_timer.ensures.same.sizes (set_after-asks c.requires c.set_timer.ensures.became)
 
-pub returns : goal.returns
-returns c = search set_after
+pub returns-clause-done : goal.returns-clause-done
+returns-clause-done c =
+    set_after c.period_of.ensures c.set_timer.ensures.became (rw c.set_timer.ensures.same.sizes at c.add_after.ensures.done)

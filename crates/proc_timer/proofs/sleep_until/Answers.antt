@@ -2,14 +2,15 @@
 use Rattle.proc_timer.specs.Own.{sleeps_until, until_after, until_fits, until_off}
 use Rattle.proc_timer.proofs.sleep_until.Goals as goal
 
-pub overflow_add-z : goal.overflow_add-z
-overflow_add-z c = search until_fits
+pub overflow_add-own : goal.overflow_add-own
+overflow_add-own c = search until_fits
 
 pub add_after-requires : goal.add_after-requires
 add_after-requires c = search until_after
 
 pub fall_asleep-requires : goal.fall_asleep-requires
-fall_asleep-requires c = search until_off
+fall_asleep-requires c = rw c.add_after.ensures.same.sizes (until_off c.requires c.ranges.c c.add_after.ensures.done)
 
-pub returns : goal.returns
-returns c = search sleeps_until
+pub returns-clause-done : goal.returns-clause-done
+returns-clause-done c =
+    sleeps_until c.add_after.ensures.done (rw c.add_after.ensures.same.sizes at c.fall_asleep.ensures.done)

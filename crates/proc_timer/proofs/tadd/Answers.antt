@@ -1,12 +1,18 @@
 -- `proc_timer::tadd` meets its contract: each need by its law.
+use Rattle.std.proofs.lemmas.Result.{err_from_is_err_and}
 use Rattle.proc_timer.specs.Add.{tadd-done, tadd-refused, tadd-set}
 use Rattle.proc_timer.proofs.tadd.Goals as goal
 
+pub returns-in_err-counts-clause-done : goal.returns-in_err-counts-clause-done
+returns-in_err-counts-clause-done c =
+    let p = err_from_is_err_and c.from_residual.result c.from_residual.ensures.1 in
+    rw (p.1, p.2) (tadd-refused c.args.kind c.requires (rw (c.view.ensures.bytes, c.view.ensures.sizes) at c.in_err-counts.ensures.err))
+
 pub set_after-requires : goal.set_after-requires
-set_after-requires c = search tadd-set
+set_after-requires c =
+    tadd-set c.args.kind c.requires (rw (c.view.ensures.bytes, c.view.ensures.sizes) at c.in_ok-counts.ensures.ok)
 
-pub returns-in-Meets : goal.returns-in-Meets
-returns-in-Meets c = search tadd-refused
-
-pub returns-in-Counts : goal.returns-in-Counts
-returns-in-Counts c = search tadd-done
+pub returns-clause-done : goal.returns-clause-done
+returns-clause-done c =
+    tadd-done c.args.kind c.requires (rw (c.view.ensures.bytes, c.view.ensures.sizes) at c.in_ok-counts.ensures.ok)
+    c.set_after.ensures.done

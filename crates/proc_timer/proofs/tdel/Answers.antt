@@ -5,5 +5,5 @@ use Rattle.proc_timer.proofs.tdel.Goals as goal
 pub del-requires : goal.del-requires
 del-requires c = search del-asks
 
-pub returns : goal.returns
-returns c = search tdel-done
+pub returns-clause-done : goal.returns-clause-done
+returns-clause-done c = search tdel-done

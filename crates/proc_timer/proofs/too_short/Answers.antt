@@ -2,8 +2,8 @@
 use Rattle.proc_timer.specs.Counting.{short-once, short-period}
 use Rattle.proc_timer.proofs.too_short.Goals as goal
 
-pub returns-then-kind-eq-RELATIVE : goal.returns-then-kind-eq-RELATIVE
-returns-then-kind-eq-RELATIVE c = search short-once
+pub returns-in-Relative : goal.returns-in-Relative
+returns-in-Relative c = search short-once
 
-pub returns : goal.returns
-returns c = search short-period
+pub returns-in-Periodic : goal.returns-in-Periodic
+returns-in-Periodic c = search short-period

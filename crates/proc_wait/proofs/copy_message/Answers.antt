@@ -1,31 +1,10 @@
--- `proc_wait::copy_message` meets its contract: byte by byte.
+-- `proc_wait::copy_message` meets its contract: the bytes of the cell.
 use Rattle.std.proofs.Common.{arith}
-use Rattle.proc_wait.specs.Copy.{copy_start, copy_more, copy-end}
+use Rattle.proc_wait.specs.Copy.{copied, copy-fits}
 use Rattle.proc_wait.proofs.copy_message.Goals as goal
 
-pub loop-j-init : goal.loop-j-init
-loop-j-init c = search copy_start
-
-pub overflow_cast-n : goal.overflow_cast-n
-overflow_cast-n c = omega arith
-
-pub overflow_add-buffer : goal.overflow_add-buffer
-overflow_add-buffer c = omega arith
-
-pub bounds-s-at : goal.bounds-s-at
-bounds-s-at c = omega arith
-
-pub bounds-buffer-j : goal.bounds-buffer-j
-bounds-buffer-j c = omega arith
-
-pub overflow_add-j : goal.overflow_add-j
-overflow_add-j c = omega arith
-
-pub loop-j-smaller : goal.loop-j-smaller
-loop-j-smaller c = omega arith
-
-pub loop-j-preserved : goal.loop-j-preserved
-loop-j-preserved c = search copy_more
+pub slice_bounds-copy_from_slice-end-3 : goal.slice_bounds-copy_from_slice-end-3
+slice_bounds-copy_from_slice-end-3 c = omega (arith, c.requires.short, c.get-length.ensures.value, copy-fits c.requires c.message_at-at.ensures.value)
 
 pub returns : goal.returns
-returns c = search copy-end
+returns c = rw c.copy_from_slice.ensures.after (copied c.requires c.message_at-at.ensures.value c.get-length.ensures.value)

@@ -1,22 +1,18 @@
 -- `proc_wait::take_child` meets its contract: each need by its law.
-use Rattle.proc_wait.specs.Wait.{child-some, child-cell, child-copy, child-reach, took-child}
-use Rattle.std.proofs.Common.{arith}
+use Rattle.proc_wait.specs.Wait.{child-cell, child-copy, child-is, child-reach, took-child}
 use Rattle.proc_wait.proofs.take_child.Goals as goal
 
-pub get16-first-requires : goal.get16-first-requires
-get16-first-requires c = search child-reach
+pub get-requires : goal.get-requires
+get-requires c = child-reach c.requires
 
-pub overflow_sub-first : goal.overflow_sub-first
-overflow_sub-first c = omega (arith, child-some)
-
-pub get64-pid-requires : goal.get64-pid-requires
-get64-pid-requires c = search child-cell
-
-pub overflow_sub-first-2 : goal.overflow_sub-first-2
-overflow_sub-first-2 c = omega (arith, child-some)
+pub get-pid-requires : goal.get-pid-requires
+get-pid-requires c = child-cell c.requires (child-is c.requires _ c.get.ensures.value c.unwrap_or-cell.ensures)
 
 pub copy_message-length-requires : goal.copy_message-length-requires
-copy_message-length-requires c = search child-copy
+copy_message-length-requires c =
+    rw (c.view.ensures.bytes, c.view.ensures.sizes) (child-copy c.requires (child-is c.requires _ c.get.ensures.value c.unwrap_or-cell.ensures))
 
-pub returns : goal.returns
-returns c = search took-child
+pub returns-clause-done : goal.returns-clause-done
+returns-clause-done c =
+    took-child c.requires (child-is c.requires _ c.get.ensures.value c.unwrap_or-cell.ensures) c.get-pid.ensures.value
+    (rw (c.view.ensures.bytes, c.view.ensures.sizes) at c.copy_message-length.ensures) c.take.ensures.taken

@@ -2,5 +2,5 @@
 use Rattle.proc_wake.specs.Steps.{cond-done}
 use Rattle.proc_wake.proofs.cond.Goals as goal
 
-pub returns : goal.returns
-returns c = search cond-done
+pub returns-clause-done : goal.returns-clause-done
+returns-clause-done c = search cond-done

@@ -1,15 +1,12 @@
 -- `proc_wake::qunlock` meets its contract: each need by its law.
-use Rattle.proc_wake.specs.Steps.{qunlock-asks, qunlock-free, qunlock-no, qunlock-to}
+use Rattle.proc_wake.specs.Steps.{qunlock-asks, qunlock-no, qunlock-done}
 use Rattle.proc_wake.proofs.qunlock.Goals as goal
 
-pub give_up-unlock-requires : goal.give_up-unlock-requires
-give_up-unlock-requires c = search qunlock-asks
+pub give_up-requires : goal.give_up-requires
+give_up-requires c = qunlock-asks c.requires
 
-pub returns-in-NotHeld : goal.returns-in-NotHeld
-returns-in-NotHeld c = search qunlock-no
+pub returns-in-None-clause-done : goal.returns-in-None-clause-done
+returns-in-None-clause-done c = qunlock-no c.requires c.in-None.ensures.done
 
-pub returns-in-Free : goal.returns-in-Free
-returns-in-Free c = search qunlock-free
-
-pub returns-in-To : goal.returns-in-To
-returns-in-To c = search qunlock-to
+pub returns-in-Some-clause-done : goal.returns-in-Some-clause-done
+returns-in-Some-clause-done c = qunlock-done c.requires c.in-Some.ensures.done

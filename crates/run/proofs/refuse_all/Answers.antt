@@ -9,8 +9,8 @@ use Rattle.run.proofs.refuse_all.Goals as goal
 pub loop-answers-init : goal.loop-answers-init
 loop-answers-init c = (reached_start, λ s w. so_far-start)
 
-pub returns-then-end-at : goal.returns-then-end-at
-returns-then-end-at c = record { ran = λ s w. ran-ended (c.loop-answers.invariant.1 s w) (end_none _ _ c.end_of-end.ensures c.if-end-at.true) }
+pub returns-in_default : goal.returns-in_default
+returns-in_default c = record { ran = λ s w. ran-ended (c.loop-answers.invariant.1 s w) (end_none _ _ c.end_of.ensures c.in_default.is) }
 
 pub overflow_add-n : goal.overflow_add-n
 overflow_add-n c =
@@ -18,8 +18,8 @@ overflow_add-n c =
 
 pub loop-answers-preserved : goal.loop-answers-preserved
 loop-answers-preserved c = (
-  reached_more c.loop-answers.invariant.0 (end-some c.loop-answers.invariant.0.steps c.end_of-end.ensures c.if-end-at.false) c.loop-answers-test.true (omega arith),
-  λ s w. so_far_more (c.loop-answers.invariant.1 s w) c.loop-answers.invariant.0 (end-some c.loop-answers.invariant.0.steps c.end_of-end.ensures c.if-end-at.false) c.loop-answers-test.true (one-refused w c.refuse_one.ensures) refl,
+  reached_more c.loop-answers.invariant.0 (end-some c.loop-answers.invariant.0.steps c.end_of.ensures c.in-Some.is) c.loop-answers-test.true (omega arith),
+  λ s w. so_far_more (c.loop-answers.invariant.1 s w) c.loop-answers.invariant.0 (end-some c.loop-answers.invariant.0.steps c.end_of.ensures c.in-Some.is) c.loop-answers-test.true (one-refused w c.refuse_one.ensures) refl,
 )
 
 pub returns : goal.returns

@@ -1,24 +1,37 @@
--- `scan::line_ok` meets its contract: n were met, each may stand in the queue, and the next link is `link`.
-use Rattle.scan.specs.Lines.{line-start, line-more, line-long, line-bad, line-tail, line-yes}
-use Rattle.rules.specs.Loop.{passed, failed}
-use Rattle.std.proofs.lemmas.Bool.{not_from_true}
-use Rattle.std.proofs.lemmas.Bool.{not_from_false}
+-- `scan::line_ok` meets its contract, by each way out.
+use Rattle.std.proofs.Common.{sym, ◌∙◌, rules, arith}
+use Rattle.std.proofs.lemmas.Bool.{false≢true}
+use Rattle.state.specs.Fields as fields
+use Rattle.rules.specs.Read.{field-most}
+use Rattle.rules.specs.Reach.{reach}
+use Rattle.scan.specs.Lines.{line-start, line-more, line-long, line-bad, line-ended, line-tail, line-yes}
 use Rattle.scan.proofs.line_ok.Goals as goal
 
-pub loop-link-init : goal.loop-link-init
-loop-link-init c = search line-start
+pub loop-at-init : goal.loop-at-init
+loop-at-init c = line-start c.requires
 
 pub returns-then-n-most : goal.returns-then-n-most
-returns-then-n-most c = search line-long
+returns-then-n-most c = line-long (rw c.in-Some.is at c.loop-at.invariant) c.if-n-most.true
+
+pub member_ok-requires : goal.member_ok-requires
+member_ok-requires c = omega (arith, (rw c.in-Some.is at c.loop-at.invariant).range)
 
 pub returns-then-not-member_ok : goal.returns-then-not-member_ok
-returns-then-not-member_ok c = line-bad c.loop-link.invariant c.loop-link-test.true (failed c.member_ok.result c.member_ok.ensures (not_from_false _ c.if-not-member_ok.true))
+returns-then-not-member_ok c =
+    line-bad (rw c.in-Some.is at c.loop-at.invariant) (λ h. false≢true (sym c.if-not-member_ok.true ∙ c.member_ok.ensures.1 h))
 
-pub loop-link-preserved : goal.loop-link-preserved
-loop-link-preserved c = line-more c.loop-link.invariant c.loop-link-test.true c.if-n-most.false (passed c.member_ok.result c.member_ok.ensures (not_from_true _ c.if-not-member_ok.false)) c.next_of-link.ensures
+pub get-at-requires : goal.get-at-requires
+get-at-requires c = reach c.args.v.now.whole (search rules) (omega (arith, (rw c.in-Some.is at c.loop-at.invariant).range))
 
-pub returns-then-last-tail : goal.returns-then-last-tail
-returns-then-last-tail c = search line-tail
+pub loop-at-preserved : goal.loop-at-preserved
+loop-at-preserved c =
+    line-more (rw c.in-Some.is at c.loop-at.invariant) c.if-n-most.false (c.member_ok.ensures.0 c.if-not-member_ok.false) c.get-at.ensures.value
+    (omega (arith, c.get-at.ensures.value, field-most c.args.v.now.whole fields.next c.in-Some.i))
 
-pub returns : goal.returns
-returns c = search line-yes
+pub returns-then-same : goal.returns-then-same
+returns-then-same c =
+    line-yes (line-ended c.args.v.now.whole c.requires (rw c.in_default.is at c.loop-at.invariant)) c.loop-at.invariant.few (c.same.ensures.0 c.if-same.true)
+
+pub returns-else-same : goal.returns-else-same
+returns-else-same c =
+    line-tail (line-ended c.args.v.now.whole c.requires (rw c.in_default.is at c.loop-at.invariant)) (λ e. false≢true (sym c.if-same.false ∙ c.same.ensures.1 e))

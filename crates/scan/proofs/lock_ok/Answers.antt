@@ -1,12 +1,15 @@
--- `scan::lock_ok` meets its contract, by each way out.
-use Rattle.scan.specs.Queues.{lock-unheld, lock_walked}
-use Rattle.rules.specs.Loop.{passed, failed}
-use Rattle.std.proofs.lemmas.Bool.{not_from_true}
-use Rattle.std.proofs.lemmas.Bool.{not_from_false}
+-- `scan::lock_ok` meets its contract: the walk decides it.
+use Rattle.std.proofs.Common.{arith}
+use Rattle.state.specs.Fields as fields
+use Rattle.state.specs.Places.{mem_in}
+use Rattle.rules.specs.Read.{field-most}
+use Rattle.scan.specs.Queues.{lock_walked}
 use Rattle.scan.proofs.lock_ok.Goals as goal
 
-pub returns-then-not-held_ok : goal.returns-then-not-held_ok
-returns-then-not-held_ok c = lock-unheld (failed c.held_ok.result c.held_ok.ensures (not_from_false _ c.if-not-held_ok.true))
+pub line_ok-requires : goal.line_ok-requires
+line_ok-requires c = omega (arith, c.get-head.ensures.value, field-most c.args.v.now.whole fields.lock_head c.args.q)
 
 pub returns : goal.returns
-returns c = lock_walked (passed c.held_ok.result c.held_ok.ensures (not_from_true _ c.if-not-held_ok.false)) c.lock_head-head.ensures c.get16-tail.ensures c.line_ok.ensures
+returns c =
+    lock_walked c.args.v.now.sizes (mem_in c.args.v.now.sizes c.args.v.now.bytes.now) c.args.q c.args.left _ _ c.line_ok.result
+    (c.held_ok.ensures.0 c.if-not-held_ok.false) c.get-head.ensures.value c.get-tail.ensures.value c.line_ok.ensures

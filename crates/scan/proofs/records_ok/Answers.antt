@@ -1,21 +1,10 @@
--- `scan::records_ok` meets its contract: the records below i are right.
+-- `scan::records_ok` meets its contract: by the test of one.
 use Rattle.std.specs.Prelude.{refl}
-use Rattle.std.proofs.Common.{arith}
-use Rattle.rules.specs.Loop.{pass_start, pass_more, pass_end, passed, failed}
-use Rattle.std.proofs.lemmas.Bool.{not_from_true}
-use Rattle.std.proofs.lemmas.Bool.{not_from_false}
+use Rattle.std.proofs.Common.{rules}
+use Rattle.state.specs.Places.{sizes_in, mem_in}
+use Rattle.rules.specs.Facts.{RecordOk}
+use Rattle.rules.specs.Below.{all_below_by}
 use Rattle.scan.proofs.records_ok.Goals as goal
 
-pub loop-i-init : goal.loop-i-init
-loop-i-init c = search pass_start
-
-pub returns-then-not-record_ok : goal.returns-then-not-record_ok
-returns-then-not-record_ok c = λ h. failed c.record_ok.result c.record_ok.ensures (not_from_false _ c.if-not-record_ok.true) (h _ (omega arith))
-
-pub loop-i-preserved : goal.loop-i-preserved
-loop-i-preserved c =
-    pass_more c.loop-i.invariant c.loop-i-test.true
-    (passed c.record_ok.result c.record_ok.ensures (not_from_true _ c.if-not-record_ok.false)) refl
-
 pub returns : goal.returns
-returns c = pass_end c.loop-i.invariant c.loop-i-test.false
+returns c = all_below_by _ (RecordOk (sizes_in c.args.v.now.sizes) (mem_in c.args.v.now.sizes c.args.v.now.bytes.now)) refl c.all.ensures.ran (λ x q k. search rules) (λ x q k. search rules)

@@ -1,21 +1,14 @@
--- `scan::rendez_ok` meets its contract: the Rendez below r are right.
+-- `scan::rendez_ok` meets its contract: by the test of one.
 use Rattle.std.specs.Prelude.{refl}
-use Rattle.std.proofs.Common.{arith}
-use Rattle.rules.specs.Loop.{pass_start, pass_more, pass_end, passed, failed}
-use Rattle.std.proofs.lemmas.Bool.{not_from_true}
-use Rattle.std.proofs.lemmas.Bool.{not_from_false}
+use Rattle.std.proofs.Common.{rules}
+use Rattle.state.specs.Places.{mem_in}
+use Rattle.rules.specs.Below.{all_below_by}
+use Rattle.rules.specs.Tests.{as_true}
+use Rattle.scan.specs.Records.{SleeperOk}
 use Rattle.scan.proofs.rendez_ok.Goals as goal
 
-pub loop-r-init : goal.loop-r-init
-loop-r-init c = search pass_start
-
-pub returns-then-not-sleeper_ok : goal.returns-then-not-sleeper_ok
-returns-then-not-sleeper_ok c = λ h. failed c.sleeper_ok.result c.sleeper_ok.ensures (not_from_false _ c.if-not-sleeper_ok.true) (h _ (omega arith))
-
-pub loop-r-preserved : goal.loop-r-preserved
-loop-r-preserved c =
-    pass_more c.loop-r.invariant c.loop-r-test.true
-    (passed c.sleeper_ok.result c.sleeper_ok.ensures (not_from_true _ c.if-not-sleeper_ok.false)) refl
-
 pub returns : goal.returns
-returns c = pass_end c.loop-r.invariant c.loop-r-test.false
+returns c =
+    as_true
+    (all_below_by _ (SleeperOk (mem_in c.args.v.now.sizes c.args.v.now.bytes.now)) refl c.all.ensures.ran (λ x q k. search rules) (λ x q k. search rules))
+    (λ f r l. (f r l).asleep) (λ f r l. record { asleep = f r l })

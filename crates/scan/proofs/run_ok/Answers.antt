@@ -1,6 +1,15 @@
 -- `scan::run_ok` meets its contract: the walk decides it.
+use Rattle.std.proofs.Common.{arith}
+use Rattle.state.specs.Fields as fields
+use Rattle.state.specs.Places.{mem_in}
+use Rattle.rules.specs.Read.{field-most}
 use Rattle.scan.specs.Queues.{run_walked}
 use Rattle.scan.proofs.run_ok.Goals as goal
 
+pub line_ok-requires : goal.line_ok-requires
+line_ok-requires c = omega (arith, c.get-head.ensures.value, field-most c.args.v.now.whole fields.run_head 0)
+
 pub returns : goal.returns
-returns c = search run_walked
+returns c =
+    run_walked c.args.v.now.sizes (mem_in c.args.v.now.sizes c.args.v.now.bytes.now) _ _ c.line_ok.result c.get-head.ensures.value c.get-tail.ensures.value
+    c.line_ok.ensures

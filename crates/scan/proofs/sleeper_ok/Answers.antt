@@ -1,16 +1,17 @@
--- `scan::sleeper_ok` meets its contract, by each way out.
+-- `scan::sleeper_ok` meets its contract: a link that is read leads to a record.
 use Rattle.std.proofs.Common.{arith}
-use Rattle.scan.specs.Records.{rendez-yes, rendez-no}
-use Rattle.rules.specs.Loop.{passed, failed}
-use Rattle.std.proofs.lemmas.Bool.{not_from_true}
-use Rattle.std.proofs.lemmas.Bool.{not_from_false}
+use Rattle.state.specs.Fields as fields
+use Rattle.state.specs.Places.{mem_in}
+use Rattle.rules.specs.Facts.{SleepsHere}
+use Rattle.rules.specs.Read.{field-most}
+use Rattle.rules.specs.Tests.{as_true}
+use Rattle.scan.specs.Asks.{link_some}
 use Rattle.scan.proofs.sleeper_ok.Goals as goal
 
-pub returns-then-link-eq0 : goal.returns-then-link-eq0
-returns-then-link-eq0 c = λ j e. absurd (omega arith)
+pub sleeps_here-requires : goal.sleeps_here-requires
+sleeps_here-requires c = omega (arith, c.in-Some.ensures.value, field-most c.args.v.now.whole fields.sleeper_of c.args.r)
 
-pub returns-then-not-sleeps_here : goal.returns-then-not-sleeps_here
-returns-then-not-sleeps_here c = rendez-no c.sleeper_of-link.ensures.value c.if-link-eq0.false (failed c.sleeps_here.result c.sleeps_here.ensures (not_from_false _ c.if-not-sleeps_here.true))
-
-pub returns : goal.returns
-returns c = rendez-yes c.sleeper_of-link.ensures.value c.if-link-eq0.false (passed c.sleeps_here.result c.sleeps_here.ensures (not_from_true _ c.if-not-sleeps_here.false))
+pub returns-in-Some : goal.returns-in-Some
+returns-in-Some c =
+    as_true (link_some {P = SleepsHere (mem_in c.args.v.now.sizes c.args.v.now.bytes.now) c.args.r} c.in-Some.ensures.value c.sleeps_here.ensures)
+    (λ f. record { asleep = f }) (λ h. h.asleep)

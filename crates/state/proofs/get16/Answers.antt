@@ -3,8 +3,8 @@ use Rattle.std.proofs.Common.{arith}
 use Rattle.layout.specs.Memory.{reach-end, get_at}
 use Rattle.state.proofs.get16.Goals as goal
 
-pub load16-requires : goal.load16-requires
-load16-requires c = omega (arith, reach-end)
+pub load-requires : goal.load-requires
+load-requires c = omega (arith, reach-end)
 
 pub returns : goal.returns
 returns c = search get_at

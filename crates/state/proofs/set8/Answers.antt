@@ -3,8 +3,8 @@ use Rattle.std.proofs.Common.{arith}
 use Rattle.layout.specs.Memory.{reach-end, put-at}
 use Rattle.state.proofs.set8.Goals as goal
 
-pub store8-requires : goal.store8-requires
-store8-requires c = omega (arith, reach-end)
+pub store-requires-clause-inside : goal.store-requires-clause-inside
+store-requires-clause-inside c = omega (arith, reach-end)
 
 pub returns : goal.returns
 returns c = search put-at

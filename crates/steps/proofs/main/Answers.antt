@@ -4,4 +4,4 @@ use Rattle.steps.specs.All.{all-asks}
 use Rattle.steps.proofs.main.Goals as goal
 
 pub take_all-requires : goal.take_all-requires
-take_all-requires c = all-asks c.start-z.ensures (omega arith) (omega arith) (omega arith) (omega arith) (omega arith)
+take_all-requires c = all-asks c.start-sizes.ensures (omega arith) (omega arith) (omega arith)

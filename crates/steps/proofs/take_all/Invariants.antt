@@ -1,9 +1,11 @@
--- `steps::take_all` meets its contract: it goes on so far. The measure is how many turns are left.
+-- `steps::take_all` meets its contract: it goes on so far.
+use Rattle.std.specs.Prelude.{◌≡◌}
 use Rattle.steps.specs.All.{Going}
 use Rattle.steps.proofs.take_all.Given as goal
 
-abbrev pub invariant-loop-turns : goal.invariant-loop-turns
-invariant-loop-turns g l = Going l.z l.initial.s l.initial.out l.s l.input l.held l.b l.message l.out l.turns l.left
-
-abbrev pub decreases-loop-turns : goal.decreases-loop-turns
-decreases-loop-turns g l = l.turns
+abbrev pub invariant-loop-turn : goal.invariant-loop-turn
+invariant-loop-turn g l =
+    record {
+      going : Going l.initial.listing.machine.sizes l.listing.machine.state.now l.input l.listing.held l.buffer l.listing.have l.listing.number l.turn;
+      sizes : l.listing.machine.sizes ≡ l.initial.listing.machine.sizes;
+    }

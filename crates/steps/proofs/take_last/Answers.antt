@@ -2,5 +2,5 @@
 use Rattle.steps.specs.Some.{last_taken}
 use Rattle.steps.proofs.take_last.Goals as goal
 
-pub returns : goal.returns
-returns g c = search last_taken
+pub returns-clause-taken : goal.returns-clause-taken
+returns-clause-taken g c = last_taken c.finish.ensures.finished

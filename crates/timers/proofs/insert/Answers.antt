@@ -1,6 +1,8 @@
--- `timers::insert` meets its contract: by its law of specs/Insert.antt.
-use Rattle.timers.specs.Insert.{inserted}
+-- `timers::insert` meets its contract: by its law of specs/Behind.antt.
+use Rattle.timers.specs.Behind.{inserted-into}
 use Rattle.timers.proofs.insert.Goals as goal
 
-pub returns : goal.returns
-returns c = search inserted
+pub returns-clause-inserted : goal.returns-clause-inserted
+returns-clause-inserted c =
+    inserted-into c.requires c.link_in.ensures.same c.set.ensures.same (rw (c.view.ensures.bytes, c.view.ensures.sizes) at c.find_before-at.ensures)
+    c.link_in.ensures.stored c.set.ensures.put c.set-2.ensures.put c.ranges.deadline

@@ -1,9 +1,9 @@
--- `timers::link_in` meets its contract: each return cites its law of specs/Insert.antt.
-use Rattle.timers.specs.Insert.{linked-front, linked-behind}
+-- `timers::link_in` meets its contract: by its law of specs/Behind.antt.
+use Rattle.memory.specs.Link.{link}
+use Rattle.timers.specs.Behind.{linked}
 use Rattle.timers.proofs.link_in.Goals as goal
 
-pub returns-then-at-eq0 : goal.returns-then-at-eq0
-returns-then-at-eq0 c = search linked-front
-
-pub returns : goal.returns
-returns c = search linked-behind
+pub returns-clause-stored : goal.returns-clause-stored
+returns-clause-stored c =
+    linked c.args.s.now c.set.new.self (link c.args.at) c.args.t c.set.ensures.same c.behind-next.ensures.value c.set.ensures.put
+    c.set_behind.ensures.stored

@@ -1,9 +1,9 @@
--- `timers::link_out` meets its contract: each return cites its law of specs/Remove.antt.
-use Rattle.timers.specs.Remove.{out_first, out_later}
+-- `timers::link_out` meets its contract: by its law of specs/Behind.antt.
+use Rattle.memory.specs.Link.{link}
+use Rattle.timers.specs.Behind.{unlinked}
 use Rattle.timers.proofs.link_out.Goals as goal
 
-pub returns-then-at-eq0 : goal.returns-then-at-eq0
-returns-then-at-eq0 c = search out_first
-
-pub returns : goal.returns
-returns c = search out_later
+pub returns-clause-stored : goal.returns-clause-stored
+returns-clause-stored c =
+    unlinked c.args.s.now c.set_behind.new.s (link c.args.at) c.args.t c.set_behind.ensures.same c.get-next.ensures.value c.set_behind.ensures.stored
+    c.set.ensures.put

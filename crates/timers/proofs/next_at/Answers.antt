@@ -3,8 +3,8 @@ use Rattle.std.proofs.Common.{arith}
 use Rattle.timers.specs.Read.{link-within, next_of}
 use Rattle.timers.proofs.next_at.Goals as goal
 
-pub load16-requires : goal.load16-requires
-load16-requires c = omega (arith, link-within)
+pub load-requires : goal.load-requires
+load-requires c = omega (arith, link-within)
 
 pub returns : goal.returns
 returns c = search next_of

@@ -7,11 +7,11 @@ unfolding sizes_of
 returns c =
     record {
       same = λ j. record {
-        processes = c.load16.ensures j;
-        rendez = c.load16-2.ensures j;
-        locks = c.load16-3.ensures j;
-        timers = c.load16-4.ensures j;
-        cells = c.load16-5.ensures j;
-        hz = c.load32.ensures j;
+        processes = c.load.ensures.value j;
+        rendez = c.load-2.ensures.value j;
+        locks = c.load-3.ensures.value j;
+        timers = c.load-4.ensures.value j;
+        cells = c.load-5.ensures.value j;
+        hz = c.load-6.ensures.value j;
       };
     }

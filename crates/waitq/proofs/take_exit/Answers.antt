@@ -1,19 +1,6 @@
--- `waitq::take_exit` meets its contract: by its law of specs/TakeCode.antt.
-use Rattle.std.proofs.Common.{arith}
-use Rattle.waitq.specs.TakeCode.{take-reach, take_some, take-drop, take-pop, took}
+-- `waitq::take_exit` meets its contract: the number of the link.
+use Rattle.std.proofs.Common.{rules, add-one}
 use Rattle.waitq.proofs.take_exit.Goals as goal
 
-pub get16-link-requires : goal.get16-link-requires
-get16-link-requires c = search take-reach
-
-pub overflow_sub-link : goal.overflow_sub-link
-overflow_sub-link c = omega (arith, take_some)
-
-pub drop_cell-requires : goal.drop_cell-requires
-drop_cell-requires c = search take-drop
-
-pub pop_exit-requires : goal.pop_exit-requires
-pop_exit-requires c = search take-pop
-
-pub returns : goal.returns
-returns c = search took
+pub returns-in-Some : goal.returns-in-Some
+returns-in-Some c = rw (add-one c.in-Some.c) (search rules)

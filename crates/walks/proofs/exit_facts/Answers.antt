@@ -1,12 +1,10 @@
--- `walks::exit_facts` meets its contract, by each way out.
-use Rattle.walks.specs.Queues.{owned-yes, owned-no, exits-no}
+-- `walks::exit_facts` meets its contract.
+use Rattle.std.proofs.Common.{sym, ◌∙◌}
+use Rattle.walks.specs.Counts.{counted-as}
 use Rattle.walks.proofs.exit_facts.Goals as goal
 
-pub returns-then-n-all : goal.returns-then-n-all
-returns-then-n-all c = search owned-yes
-
-pub returns-else-n-all : goal.returns-else-n-all
-returns-else-n-all c = search owned-no
-
-pub returns-else-ok : goal.returns-else-ok
-returns-else-ok c = search exits-no
+pub returns : goal.returns
+returns c =
+    let k = c.from.ensures ∙ c.count_set.ensures in
+    let e = counted-as c.all_exits_ok.result c.from.result c.eq.result c.all_exits_ok.ensures c.eq.ensures in
+    (λ t. record { exits = (e.0 t).0; all_owned = (e.0 t).1 ∙ k }, λ f. e.1 (f.exits, f.all_owned ∙ sym k))

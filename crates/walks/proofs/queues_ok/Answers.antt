@@ -1,15 +1,9 @@
--- `walks::queues_ok` meets its contract, by each way out.
-use Rattle.walks.specs.Queues.{queues-yes, no-ages, no-exits, no-timers}
+-- `walks::queues_ok` meets its contract, by its three parts.
+use Rattle.walks.specs.Queues.{queues-all, ages-of}
 use Rattle.walks.proofs.queues_ok.Goals as goal
 
-pub returns-then-age_facts : goal.returns-then-age_facts
-returns-then-age_facts c = search queues-yes
-
-pub returns-else-age_facts : goal.returns-else-age_facts
-returns-else-age_facts c = search no-ages
-
-pub returns-else-exit_facts : goal.returns-else-exit_facts
-returns-else-exit_facts c = search no-exits
-
-pub returns-else-timer_facts : goal.returns-else-timer_facts
-returns-else-timer_facts c = search no-timers
+pub returns-then-exit_facts : goal.returns-then-exit_facts
+returns-then-exit_facts c = (
+  λ t. queues-all (c.timer_facts.ensures.0 c.if-timer_facts.true) (c.exit_facts.ensures.0 c.if-exit_facts.true) (c.age_facts.ensures.0 t),
+  λ f. c.age_facts.ensures.1 (ages-of f),
+)

@@ -1,15 +1,13 @@
--- `walks::timer_facts` meets its contract, by each way out.
-use Rattle.walks.specs.Queues.{timers-yes, queued-no, queue-no, timers-no}
+-- `walks::timer_facts` meets its contract.
+use Rattle.std.proofs.Common.{sym, ◌∙◌}
+use Rattle.std.specs.Prelude.{◌+◌}
+use Rattle.walks.specs.Counts.{counted-as, queued-count}
 use Rattle.walks.proofs.timer_facts.Goals as goal
 
-pub returns-then-n-all : goal.returns-then-n-all
-returns-then-n-all c = search timers-yes
-
-pub returns-else-n-all : goal.returns-else-n-all
-returns-else-n-all c = search queued-no
-
-pub returns-else-ok : goal.returns-else-ok
-returns-else-ok c = search queue-no
-
-pub returns-else-timers_ok : goal.returns-else-timers_ok
-returns-else-timers_ok c = search timers-no
+pub returns-then-timers_ok : goal.returns-then-timers_ok
+returns-then-timers_ok c =
+    let k = c.count_set.ensures ∙ queued-count (c.args.v.now.sizes.timers + c.args.v.now.sizes.processes) c.args.v.now.whole in
+    let e = counted-as c.timer_queue_ok.result c.count_set.result c.eq.result c.timer_queue_ok.ensures c.eq.ensures in (
+      λ t. record { timers = c.timers_ok.ensures.0 c.if-timers_ok.true; timer_queue = (e.0 t).0; all_queued = (e.0 t).1 ∙ k },
+      λ f. e.1 (f.timer_queue, f.all_queued ∙ sym k),
+    )

@@ -1,16 +1,11 @@
--- `walks::timers_ok` meets its contract: the timers below t are in order. The measure is how many are left.
-use Rattle.walks.specs.Loops.{all-more, all-no}
-use Rattle.rules.specs.Loop.{pass_start, pass_end}
+-- `walks::timers_ok` meets its contract.
+use Rattle.std.specs.Prelude.{refl}
+use Rattle.std.proofs.Common.{rules}
+use Rattle.state.specs.Places.{sizes_in}
+use Rattle.rules.specs.Code.{mem_in}
+use Rattle.rules.specs.Facts.{TimerOk}
+use Rattle.rules.specs.Below.{all_below_by}
 use Rattle.walks.proofs.timers_ok.Goals as goal
 
-pub loop-t-init : goal.loop-t-init
-loop-t-init c = search pass_start
-
-pub loop-t-preserved : goal.loop-t-preserved
-loop-t-preserved c = search all-more
-
-pub returns-else-timer_ok : goal.returns-else-timer_ok
-returns-else-timer_ok c = all-no c.loop-t.invariant c.loop-t-test.true c.if-timer_ok.false c.timer_ok.ensures
-
 pub returns : goal.returns
-returns c = pass_end c.loop-t.invariant c.loop-t-test.false
+returns c = all_below_by _ (TimerOk (sizes_in c.args.v.now.sizes) (mem_in c.args.v.now.sizes c.args.v.now.bytes.now)) refl c.all.ensures.ran (λ x q k. search rules) (λ x q k. search rules)

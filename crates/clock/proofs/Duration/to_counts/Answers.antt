@@ -1,27 +1,6 @@
--- `clock::Duration::to_counts` meets its contract: a law for each return, and laws that the products and sums fit.
-use Rattle.clock.specs.Shown.{rooms, part_product, part_sum, secs_fit, both_fit, counts-none, counts-held, counts-sum}
+-- `clock::Duration::to_counts` meets its contract: the sum with the limit is the definition.
+use Rattle.clock.specs.Shown.{counts-capped}
 use Rattle.clock.proofs.Duration.to_counts.Goals as goal
 
-pub returns-then-hz-eq0 : goal.returns-then-hz-eq0
-returns-then-hz-eq0 c = search counts-none
-
-pub overflow_mul-part : goal.overflow_mul-part
-overflow_mul-part c = search part_product
-
-pub overflow_add-part : goal.overflow_add-part
-overflow_add-part c = search (part_sum, rooms)
-
-pub overflow_sub-room : goal.overflow_sub-room
-overflow_sub-room c = search rooms
-
-pub returns-then-secs-room : goal.returns-then-secs-room
-returns-then-secs-room c = search (counts-held, rooms)
-
-pub overflow_mul-result : goal.overflow_mul-result
-overflow_mul-result c = search (secs_fit, rooms)
-
-pub overflow_add-result : goal.overflow_add-result
-overflow_add-result c = search (both_fit, rooms)
-
 pub returns : goal.returns
-returns c = search (counts-sum, both_fit, rooms)
+returns c = rw (c.saturating_add.ensures, c.saturating_mul.ensures, c.div_ceil-part.ensures) (counts-capped c.args.hz c.args.self.secs c.args.self.nanos)

@@ -1,6 +1,0 @@
--- `clockwork::condition` meets its contract: by its law of specs/Conditions.antt.
-use Rattle.clockwork.specs.Conditions.{condition-is}
-use Rattle.clockwork.proofs.condition.Goals as goal
-
-pub returns : goal.returns
-returns c = search condition-is

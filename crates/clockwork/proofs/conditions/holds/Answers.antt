@@ -1,0 +1,6 @@
+-- `clockwork::conditions::holds` meets its contract: by its law of specs/Conditions.antt.
+use Rattle.clockwork.specs.Conditions.{condition-is}
+use Rattle.clockwork.proofs.conditions.holds.Goals as goal
+
+pub returns : goal.returns
+returns c = search condition-is

@@ -1,6 +1,0 @@
--- `dat::stop` meets its contract: each need by its law.
-use Rattle.dat.specs.Own.{stopped}
-use Rattle.dat.proofs.stop.Goals as goal
-
-pub returns : goal.returns
-returns c = search stopped

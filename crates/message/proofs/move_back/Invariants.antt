@@ -1,9 +1,0 @@
--- `message::move_back` meets its contract: from `n` the way back ends where it ends from 127. The measure is `n`.
-use Rattle.message.specs.Cut.{Moving}
-use Rattle.message.proofs.move_back.Given as goal
-
-abbrev pub invariant-loop-n : goal.invariant-loop-n
-invariant-loop-n l = Moving l.name l.digits l.status l.n
-
-abbrev pub decreases-loop-n : goal.decreases-loop-n
-decreases-loop-n l = l.n

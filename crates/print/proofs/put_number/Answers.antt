@@ -1,6 +1,0 @@
--- `print::put_number` meets its contract: one put after another.
-use Rattle.print.specs.Put.{put_join}
-use Rattle.print.proofs.put_number.Goals as goal
-
-pub returns : goal.returns
-returns c = search put_join

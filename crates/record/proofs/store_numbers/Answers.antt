@@ -1,6 +1,0 @@
--- `record::store_numbers` meets its contract: three runs of stores.
-use Rattle.state.specs.Places.{wrote-runs}
-use Rattle.record.proofs.store_numbers.Goals as goal
-
-pub returns : goal.returns
-returns c = search wrote-runs

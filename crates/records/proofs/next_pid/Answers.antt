@@ -1,6 +1,0 @@
--- `records::next_pid` meets its contract: each need by its law.
-use Rattle.records.specs.Pid.{pid-taken}
-use Rattle.records.proofs.next_pid.Goals as goal
-
-pub returns : goal.returns
-returns c = search pid-taken

@@ -1,7 +1,0 @@
--- `scan::sleeper_of` meets its contract: the field is in range.
-use Rattle.std.proofs.Common.{arith}
-use Rattle.scan.specs.Asks.{most-at}
-use Rattle.scan.proofs.sleeper_of.Goals as goal
-
-pub returns : goal.returns
-returns c = record { value = c.get16.ensures; range = omega (arith, c.get16.ensures, most-at c.requires.whole 35 c.args.r) }
