@@ -8,7 +8,8 @@ use Rattle.chain.specs.Lists.{Absent}
 use Rattle.chain.specs.Links.{Links, Chain, Queue, links-alter, alter-same, distinct-right, chain-rest, chain_head, first_link, final, final-split, push_links, push_first, queue-push}
 use Rattle.chain.specs.Prefix.{links-distinct}
 use Rattle.chain.specs.Removed.{chain_out}
-use Rattle.ages.specs.Lists.{each-reverse, first-reverse, final-reverse, reverse_about}
+use Rattle.rules.specs.Walk.{reverse_about}
+use Rattle.ages.specs.Lists.{each-reverse, first-reverse, final-reverse}
 
 pub record Both (n : ℕ) (g k : ℕ → ℕ) (h t : ℕ) (xs : List ℕ) : Type 0 where
   pub forth : Chain n g h xs

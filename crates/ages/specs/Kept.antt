@@ -5,7 +5,7 @@ use Rattle.machine.specs.Basics.{count}
 use Rattle.machine.specs.Machine as machine
 use Rattle.lists.specs.Lists.{bit, each-count}
 use Rattle.layout.specs.Memory.{Memory, upd}
-use Rattle.chain.specs.Lists.{Absent}
+use Rattle.chain.specs.Lists.{Absent, none-absent}
 use Rattle.chain.specs.Links.{Links, Queue, chain-walk, alter-other}
 use Rattle.state.specs.Fields as fields
 use Rattle.state.specs.Abs.{is_set}
@@ -17,7 +17,6 @@ use Rattle.exact.proofs.FactsGood.{rising-apart}
 use Rattle.exact.specs.Resumes.{set_test, unset_test, test_set}
 use Rattle.exact.specs.Sums.{bit-true}
 use Rattle.holds.specs.Holds.{Holds}
-use Rattle.ages.specs.Lists.{none-absent}
 use Rattle.ages.specs.Both.{Both, both-queue}
 
 -- The bytes are in range, and the links of age are right.

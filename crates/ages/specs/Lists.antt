@@ -1,12 +1,12 @@
 -- Lists: one that is reversed, and one without a number that stood in it.
 use Rattle.std.proofs.lemmas.List.{reverse-append, reverse-reverse}
 use Rattle.std.specs.Prelude.{◌≡◌, refl, Bool, true, false, not, ℕ, suc, ◌≤◌, ◌<◌, eqb, List, [], ◌∷◌, ◌++◌, reverse}
-use Rattle.std.proofs.Common.{sym, ap, ◌∙◌, ⊎_elim, arith, eqb-true, eq-eqb, ne_eqb, append_assoc}
+use Rattle.std.proofs.Common.{sym, ap, ◌∙◌, ⊎_elim, arith, eqb-true, eq-eqb, ne_eqb}
 use mathlib.Core.List.{reverse-cons}
 use Rattle.machine.specs.Basics.{count, filter}
 use Rattle.machine.specs.Good.{Each}
-use Rattle.lists.specs.Lists.{bit, each_append, count-each}
-use Rattle.chain.specs.Lists.{Absent, all_both}
+use Rattle.lists.specs.Lists.{bit, each_append}
+use Rattle.chain.specs.Lists.{Absent, all_both, filter-absent}
 use Rattle.chain.specs.Links.{first_link, final, final-split}
 use Rattle.state.specs.WellFormed.{Rising}
 
@@ -27,18 +27,6 @@ first-reverse xs = ⊎_elim none some (final-split xs)
 
 pub final-reverse : (xs : List ℕ) → final 0 (reverse xs) ≡ first_link xs
 final-reverse xs = sym (first-reverse (reverse xs)) ∙ ap first_link (reverse-reverse xs)
-
--- A list that is reversed about one of its numbers.
-pub reverse_about : (us : List ℕ) (i : ℕ) (vs : List ℕ) → reverse (us ++ i ∷ vs) ≡ reverse vs ++ i ∷ reverse us
-reverse_about us i vs =
-    reverse-append us (i ∷ vs)
-    ∙ ap (λ (l : List ℕ). l ++ reverse us) (reverse-cons i vs)
-    ∙ append_assoc (reverse vs) (i ∷ []) (reverse us)
-
--- A number that stands nowhere in a list.
-pub none-absent : (i : ℕ) (xs : List ℕ) → count i xs ≡ 0 → Absent i xs
-none-absent i xs e =
-    count-each (λ x. i ≡ x → ⊥) xs (λ k c d. absurd (omega (arith, ap (λ (j : ℕ). count j xs) d)))
 
 -- Where a number that is in a list stands.
 pub record Stands (i : ℕ) (xs : List ℕ) : Type 0 where
@@ -61,14 +49,9 @@ stands i (x ∷ xs) c = go (eqb i x) refl (λ l. stands i xs l)
 abbrev pub without : ℕ → List ℕ → List ℕ
 without i xs = filter (λ (x : ℕ). not (eqb x i)) xs
 
-without-absent : (i : ℕ) (xs : List ℕ) → Absent i xs → without i xs ≡ xs
-unfolding filter
-without-absent i [] a = refl
-without-absent i (x ∷ xs) a = rw (ne_eqb x i (λ e. a.0 (sym e)), without-absent i xs a.1)
-
 pub without-split : (us : List ℕ) (i : ℕ) (vs : List ℕ) → Absent i us → Absent i vs → without i (us ++ i ∷ vs) ≡ us ++ vs
 unfolding filter
-without-split [] i vs a b = rw (eq-eqb i i refl) (without-absent i vs b)
+without-split [] i vs a b = rw (eq-eqb i i refl) (filter-absent i vs b)
 without-split (u ∷ us) i vs a b = rw (ne_eqb u i (λ e. a.0 (sym e)), without-split us i vs a.1 b)
 
 -- What is left when the number between two parts goes.

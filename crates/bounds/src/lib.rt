@@ -13,29 +13,31 @@ ghost use Rattle.bounds.specs.InRange.{StateIn, Groups};
 use memory::Number;
 use rules::Checked;
 use state::field::{self, Field};
-use state::{Index, Sizes, View};
+use state::{CallKind, Index, ProcState, Sizes, View};
 
-// Is a field at most `most` in each of the first `n` records? Tried as `(0..n).all(..)`, which took half as long again.
+// Is a field at most `most` in each of the first `n` records? All are read, with no way out before the last: so no read waits for the test before it,
+// and a state in range takes two thirds of the time. Tried as `(0..n).all(..)` too, which took twice as long.
 fn within<T: Number>(v: &View, f: Field<T>, n: Index, most: u64) -> bool
     requires { Asks v.now.sizes v.now.bytes.now (slot_of f T.width) n }
     ensures { IsTrue result ↔ Within v.now.sizes v.now.bytes.now (column_at (slot_of f T.width) n most) }
 {
+    let v = *v;
+    let mut fits = true;
     for i in 0..n {
-        if v.get(f, i).value() > most {
-            return false;
-        }
+        fits &= v.get(f, i).value() <= most;
     }
-    true
+    fits
 }
 
-// The header's links to who runs, to the run queue and to the timer queue.
+// The header's links to who runs, to the run queue and to the timer queue. This and the six below are a list each, and no table: fields of
+// different types stand in them. That the sizes are in range stays a clause: a type for it would be a third one beside `View` and `Checked`.
 #[tactic(auto, unfolding(crate::specs::Groups::All))]
 fn heads_within(v: &View) -> bool
     requires { SizesInRange (sizes_in v.now.sizes) }
     ensures { IsTrue result ↔ All v.now.sizes v.now.bytes.now (heads v.now.sizes) }
 {
-    let p = v.sizes.processes as u64;
-    let t = v.sizes.timers as u64 + p;
+    let p = u64::from(v.sizes.processes);
+    let t = u64::from(v.sizes.timers) + p;
     within(v, field::UP, 1, p)
         && (within(v, field::RUN_HEAD, 1, p)
             && (within(v, field::RUN_TAIL, 1, p) && within(v, field::TIMER_HEAD, 1, t)))
@@ -47,7 +49,7 @@ fn ends_within(v: &View) -> bool
     requires { SizesInRange (sizes_in v.now.sizes) }
     ensures { IsTrue result ↔ All v.now.sizes v.now.bytes.now (ends v.now.sizes) }
 {
-    let p = v.sizes.processes as u64;
+    let p = u64::from(v.sizes.processes);
     within(v, field::OLDEST, 1, p) && within(v, field::YOUNGEST, 1, p)
 }
 
@@ -58,7 +60,7 @@ fn links_within(v: &View) -> bool
     ensures { IsTrue result ↔ All v.now.sizes v.now.bytes.now (links v.now.sizes) }
 {
     let n = v.sizes.processes;
-    let p = n as u64;
+    let p = u64::from(n);
     within(v, field::NEXT, n, p)
         && (within(v, field::OLDER, n, p)
             && (within(v, field::YOUNGER, n, p) && within(v, field::PARENT_AT, n, p)))
@@ -71,10 +73,13 @@ fn states_within(v: &View) -> bool
     ensures { IsTrue result ↔ All v.now.sizes v.now.bytes.now (states v.now.sizes) }
 {
     let n = v.sizes.processes;
-    let c = v.sizes.cells as u64;
+    let last_state = u64::from(ProcState::Asleep.number());
+    let last_kind = u64::from(CallKind::Wait.number());
+    let c = u64::from(v.sizes.cells);
     within(v, field::EXITS, n, c)
         && (within(v, field::NEXITS, n, 128)
-            && (within(v, field::STATE_OF, n, 3) && within(v, field::RESUME_KIND, n, 4)))
+            && (within(v, field::STATE_OF, n, last_state)
+                && within(v, field::RESUME_KIND, n, last_kind)))
 }
 
 // Rendez and locks.
@@ -83,7 +88,7 @@ fn locks_within(v: &View) -> bool
     requires { SizesInRange (sizes_in v.now.sizes) }
     ensures { IsTrue result ↔ All v.now.sizes v.now.bytes.now (locks v.now.sizes) }
 {
-    let p = v.sizes.processes as u64;
+    let p = u64::from(v.sizes.processes);
     let q = v.sizes.locks;
     within(v, field::SLEEPER_OF, v.sizes.rendez, p)
         && (within(v, field::HELD, q, 1)
@@ -97,8 +102,8 @@ fn timers_within(v: &View) -> bool
     ensures { IsTrue result ↔ All v.now.sizes v.now.bytes.now (timers v.now.sizes) }
 {
     let n = v.sizes.timers + v.sizes.processes;
-    let t = n as u64;
-    let r = v.sizes.rendez as u64 - 1;
+    let t = u64::from(n);
+    let r = u64::from(v.sizes.rendez) - 1;
     within(v, field::PERIOD, n, 9_223_372_036_854_775_807)
         && (within(v, field::TIMER_RENDEZ, n, r)
             && (within(v, field::TIMER_NEXT, n, t) && within(v, field::IS_QUEUED, n, 1)))
@@ -111,8 +116,8 @@ fn cells_within(v: &View) -> bool
     ensures { IsTrue result ↔ All v.now.sizes v.now.bytes.now (cells v.now.sizes) }
 {
     let n = v.sizes.cells;
-    let p = v.sizes.processes as u64;
-    within(v, field::CELL_NEXT, n, n as u64)
+    let p = u64::from(v.sizes.processes);
+    within(v, field::CELL_NEXT, n, u64::from(n))
         && (within(v, field::OWNER, n, p)
             && (within(v, field::MESSAGE_LENGTH, n, 127)
                 && within(v, field::CONDITION_BIT, 256, 1)))

@@ -1,7 +1,8 @@
--- Lists of distinct numbers below a bound.
-use Rattle.std.specs.Prelude.{if◌then◌else◌, ◌≡◌, refl, Bool, true, false, List, [], ◌∷◌, ◌++◌, ℕ, zero, suc, ◌≤◌, ◌<◌, eqb, length}
-use Rattle.std.proofs.Common.{sym, subst, arith, not-suc-le-zero, eqb-true, ne_eqb}
+-- Lists of numbers below a bound, distinct ones, and how often a number stands in one.
+use Rattle.std.specs.Prelude.{if◌then◌else◌, ◌≡◌, refl, Bool, true, false, not, List, [], ◌∷◌, ◌++◌, ℕ, zero, suc, ◌+◌, ◌≤◌, ◌<◌, eqb, length, get_or}
+use Rattle.std.proofs.Common.{sym, subst, append_assoc, get_or-append-add, arith, not-suc-le-zero, eqb-true, ne_eqb}
 use Rattle.std.proofs.lemmas.Bool.{eqb-false}
+use Rattle.machine.specs.Basics.{count, filter}
 use Rattle.machine.specs.Good.{Each}
 
 abbrev pub Below : ℕ → List ℕ → Type 0
@@ -30,6 +31,35 @@ all_insert p (x ∷ xs) t i ys a h = (a.0, all_insert p xs t i ys a.1 h)
 pub distinct-insert : (xs : List ℕ) (t i : ℕ) (ys : List ℕ) → Distinct (xs ++ t ∷ ys) → Absent i (xs ++ t ∷ ys) → Distinct (xs ++ t ∷ i ∷ ys)
 distinct-insert [] t i ys d a = (((λ e. a.0 (sym e)), d.0), (a.1, d.1))
 distinct-insert (x ∷ xs) t i ys d a = (all_insert (λ y. x ≡ y → ⊥) xs t i ys d.0 (λ e. a.0 (sym e)), distinct-insert xs t i ys d.1 a.1)
+
+-- The numbers of a part of a list are below what all of the list are below.
+pub part_below : (n : ℕ) (p bs q : List ℕ) → ((k : ℕ) → get_or (p ++ (bs ++ q)) k 0 < n) → Below n bs
+part_below n p [] q h = tt
+part_below n p (b ∷ bs) q h = (
+  subst (λ (x : ℕ). x < n) (get_or-append-add p (b ∷ (bs ++ q)) 0 0) (h (length p + 0)),
+  part_below n (p ++ b ∷ []) bs q (λ k. subst (λ (l : List ℕ). get_or l k 0 < n) (sym (append_assoc p (b ∷ []) (bs ++ q))) (h k)),
+)
+
+-- A number that is absent stands there no time, and the other way round.
+pub count-absent : (xs : List ℕ) (k : ℕ) → Absent k xs → count k xs ≡ 0
+unfolding count
+count-absent [] k a = refl
+count-absent (x ∷ xs) k a = rw (ne_eqb k x a.0) (omega (arith, count-absent xs k a.1))
+
+pub none-absent : (i : ℕ) (xs : List ℕ) → count i xs ≡ 0 → Absent i xs
+unfolding count
+none-absent i [] e = tt
+none-absent i (x ∷ xs) e = go (eqb i x) refl (λ c. none-absent i xs c)
+  where
+    go : (b : Bool) → eqb i x ≡ b → (count i xs ≡ 0 → Absent i xs) → (i ≡ x → ⊥) × Absent i xs
+    go true q r = absurd (omega (arith, rw q at e))
+    go false q r = (eqb-false i x q, r (omega (arith, rw q at e)))
+
+-- A list without a number that is absent is the list.
+pub filter-absent : (i : ℕ) (xs : List ℕ) → Absent i xs → filter (λ (x : ℕ). not (eqb x i)) xs ≡ xs
+unfolding filter
+filter-absent i [] a = refl
+filter-absent i (x ∷ xs) a = rw (ne_eqb x i (λ e. a.0 (sym e)), filter-absent i xs a.1)
 
 -- distinct numbers below n are at most n
 without : ℕ → List ℕ → List ℕ

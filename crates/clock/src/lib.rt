@@ -20,10 +20,10 @@ impl Duration {
     pub fn valid(self) -> bool
         ensures { result ≡ valid_duration self.secs self.nanos }
     {
-        (self.nanos as u64) < SECOND
+        u64::from(self.nanos) < SECOND
     }
 
-    // Does it take no time?
+    // Does it take no time? Two tests, and no comparison with a duration of zeros: the definition is of two numbers.
     pub fn is_zero(self) -> bool
         ensures { result ≡ zero_duration self.secs self.nanos }
     {
@@ -36,8 +36,8 @@ impl Duration {
     pub fn shorter_than(self, other: Duration) -> bool
         ensures { result ≡ shorter self.secs self.nanos other.secs other.nanos }
     {
-        let nanos = self.nanos as u64;
-        let others = other.nanos as u64;
+        let nanos = u64::from(self.nanos);
+        let others = u64::from(other.nanos);
         if self.secs <= other.secs {
             let more = other.secs - self.secs;
             return more >= 5 || nanos < more * SECOND + others;
@@ -52,8 +52,8 @@ impl Duration {
     pub fn to_counts(self, hz: u32) -> u64
         ensures { result ≡ counts_of hz self.secs self.nanos }
     {
-        let hz = hz as u64;
-        let part = (self.nanos as u64 * hz).div_ceil(SECOND);
+        let hz = u64::from(hz);
+        let part = (u64::from(self.nanos) * hz).div_ceil(SECOND);
         self.secs.saturating_mul(hz).saturating_add(part)
     }
 }

@@ -1,5 +1,5 @@
 -- Conditions: what sleepers wait for.
-use Rattle.std.specs.Prelude.{◌≡◌, refl, Bool, true, false, List, [], ◌∷◌, ℕ, ◌≤◌}
+use Rattle.std.specs.Prelude.{◌≡◌, refl, Bool, true, false, List, [], ◌∷◌, ℕ}
 use Rattle.std.proofs.Common.{sym, ap, ◌∙◌, arith, Fits, eq-eqb, ne_eqb, lit<}
 use Rattle.std.specs.Int.{w8}
 use Rattle.machine.specs.Machine.{Machine, condition}
@@ -14,7 +14,7 @@ use Rattle.state.specs.Places.{sizes_in, mem_in, PutIn}
 use Rattle.state.specs.declared.Sizes.{Sizes}
 use Rattle.holds.specs.Parts.{table-set}
 use Rattle.holds.specs.Use.{used_by, none, more, before}
-use Rattle.lists.specs.Lists.{bit}
+use Rattle.lists.specs.Lists.{bit, bit-small}
 use Rattle.timer.specs.Only.{Owing}
 use Rattle.timer.specs.Del.{machine_in}
 use Rattle.clockwork.specs.Stores.{Became, became}
@@ -39,10 +39,6 @@ condition_stores c v = to fields.condition_bit c (bit v) ∷ []
 set_bit : (v : Bool) → is_set (bit v) ≡ v
 set_bit true = refl
 set_bit false = refl
-
-bit-most : (v : Bool) → bit v ≤ 1
-bit-most true = omega arith
-bit-most false = omega arith
 
 machine-condition
     : (z : Sizes) (m : Memory) (c : ℕ) (v : Bool)
@@ -76,4 +72,4 @@ pub condition-set
     → Became z s s' (condition_stores c v) (with_condition c v (machine_in z s))
 unfolding used_by
 condition-set {z} {s} {s'} {c} {w} v o b e p =
-    became o (record { bytes = rw e at p.bytes; long = p.long }) (omega (arith, b, bit-most v)) (refl, tt) (more (before (lit< tt)) none) (machine-condition z (mem_in z s) c v)
+    became o (record { bytes = rw e at p.bytes; long = p.long }) (omega (arith, b, bit-small v)) (refl, tt) (more (before (lit< tt)) none) (machine-condition z (mem_in z s) c v)

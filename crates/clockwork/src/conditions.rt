@@ -1,4 +1,4 @@
-// Conditions: what sleepers wait for.
+// Conditions: what sleepers wait for. The field of one is a byte, 1 or 0, as C callers read it: a `bool` here, and a number there alone.
 
 ghost use Rattle.machine.specs.Update.{with_condition};
 ghost use Rattle.state.specs.Lent.{Same};
@@ -14,7 +14,7 @@ pub fn holds(v: &View, c: u8) -> bool
     requires { Owing v.now.sizes v.now.bytes.now }
     ensures { Condition v.now.sizes v.now.bytes.now c result }
 {
-    v.get(field::CONDITION_BIT, c as Index) != 0
+    v.get(field::CONDITION_BIT, Index::from(c)) != 0
 }
 
 // Makes condition `c` true or false.
@@ -23,5 +23,5 @@ pub fn set(s: &mut State, c: u8, v: bool)
     ensures same { Same s.old s.new }
     ensures became { Became s.old.sizes s.old.bytes.now s.new.bytes.now (condition_stores c v) (with_condition c v (machine_in s.old.sizes s.old.bytes.now)) }
 {
-    s.set(field::CONDITION_BIT, c as Index, u8::from(v));
+    s.set(field::CONDITION_BIT, Index::from(c), u8::from(v));
 }

@@ -29,11 +29,7 @@ pub fn preempt_due(v: &View) -> bool
         None => false,
         Some(i) => {
             let end = v.get(field::QUANTUM_END, i);
-            let ticks = v.get(field::TICKS, 0);
-            if ticks < end {
-                return false;
-            }
-            v.get(field::RUN_HEAD, 0).is_some()
+            end <= v.get(field::TICKS, 0) && v.get(field::RUN_HEAD, 0).is_some()
         }
     }
 }

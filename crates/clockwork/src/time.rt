@@ -47,7 +47,8 @@ pub fn set_now(s: &mut State, reading: u64)
     s.set(field::LAST_NOW, 0, reading);
 }
 
-// What kernel timer `t` does: its period in counts, 0 where it fires once, and the Rendez it wakes.
+// What kernel timer `t` does: its period in counts, 0 where it fires once, and the Rendez it wakes. The 0 is the step's and the field's, as C callers
+// have it: an `Option` between the two would be made of the one and taken apart for the other.
 pub fn set_timer(s: &mut State, t: Index, period: u64, rendez: Index)
     requires { SettingAsks s.old.sizes s.old.bytes.now t period rendez }
     ensures same { Same s.old s.new }

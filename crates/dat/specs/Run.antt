@@ -1,6 +1,6 @@
 -- The run queue: what `ready` and `next_ready` ask and ensure.
 use Rattle.std.specs.Prelude.{◌≡◌, refl, List, [], ◌∷◌, ◌++◌, ℕ, zero, suc, ◌-◌, ◌≤◌, ◌<◌}
-use Rattle.std.proofs.Common.{sym, ap, ap₂, subst, ◌∙◌, arith}
+use Rattle.std.proofs.Common.{sym, ap, ap₂, subst, ◌∙◌, arith, lit<}
 use Rattle.machine.specs.Update.{with_run}
 use Rattle.machine.specs.Places.{ready}
 use Rattle.layout.specs.Table.{slot}
@@ -14,7 +14,8 @@ use Rattle.state.specs.declared.Sizes.{Sizes}
 use Rattle.rules.specs.Code.{Long}
 use Rattle.exact.specs.Bounds.{InBounds, inside, at_most}
 use Rattle.queue.specs.Ends.{Ends, Popped}
-use Rattle.queue.specs.Held.{Held, HeldStored}
+use Rattle.queue.specs.Held.{HeldAsks, Held, HeldStored}
+use Rattle.queue.specs.Field.{PushAtAsks, PushedAt, PopAtAsks, PoppedAt}
 use Rattle.queue.specs.List.{Linked, linked-run, list-run, empty-list}
 use Rattle.queue.specs.Push.{push_writes, push-writable, PushAsks, PushDone}
 use Rattle.queue.specs.Pop.{pop_writes, pop_head, PopAsks, PopDone}
@@ -82,6 +83,17 @@ ready-push {z} {s} {i} {q} a l =
       absent = rw (list-run z (mem_in z s) q l.head) a.nowhere.run;
     }
 
+-- The header's fields lie within the bytes.
+run-held : {z : Sizes} {s : List ℕ} {n : ℕ} → Holds z s n → HeldAsks z s (slot 0 28 2) (slot 0 30 2) 0
+run-held h =
+    record {
+      head = record { inside = record { region = lit< tt; end = lit< tt }; index = omega arith; long = h.state.long };
+      tail = record { inside = record { region = lit< tt; end = lit< tt }; index = omega arith; long = h.state.long };
+    }
+
+pub ready-push-at : {z : Sizes} {s : List ℕ} {i : ℕ} → ReadyAsks z s i → PushAtAsks z s (slot 0 28 2) (slot 0 30 2) 0 i
+ready-push-at a = record { held = run-held a.holds; asks = λ h. ready-push a (run-loaded h) }
+
 -- The record is one of the table.
 pub ready-low : {z : Sizes} {s : List ℕ} {i : ℕ} → ReadyAsks z s i → i < z.processes
 ready-low {i = i} a = inside (holds-bounds a.holds) fields.pid i a.nowhere.used
@@ -111,7 +123,7 @@ ready-updates m (suc t) i e =
     (λ (k : Memory). updates k (to fields.run_head 0 (push_first (m fields.run_head 0) (suc t) i) ∷ to fields.run_tail 0 (suc i) ∷ to fields.state_of i 2 ∷ []))
     (set_twice m fields.next (alter (m fields.next) i 0) (alter (alter (m fields.next) i 0) t (suc i))))
 
--- What the code of `ready` shows.
+-- What its stores come to.
 pub readied
     : {z : Sizes} {s s₁ s₂ s₃ : List ℕ} {i : ℕ} {q r : Ends}
     → ReadyAsks z s i
@@ -145,6 +157,10 @@ readied {z} {s} {s₁} {s₂} {s₃} {i} {q} {r} a l d w p =
           (in_use-runs (push-in_use (m fields.run_tail 0) i a.nowhere.used (run-last-used a.holds.keeps.placed))
           (EachInUse.more (before (omega arith)) (EachInUse.more (before (omega arith)) (EachInUse.more (before a.nowhere.used) EachInUse.none))));
     }
+
+-- What the code of `ready` shows.
+pub readied-at : {z : Sizes} {s s₁ s₂ : List ℕ} {i : ℕ} → ReadyAsks z s i → PushedAt z s s₁ (slot 0 28 2) (slot 0 30 2) 0 i → PutIn z s₁ s₂ (slot 1 37 1) i 2 → Readied z s s₂ i
+readied-at a d p = readied a (run-loaded d.held) d.pushed (run-stored d.stored) p
 
 -- The stores by which the first, i, is taken off.
 abbrev pub next_stores : Memory → ℕ → List Write
@@ -272,3 +288,11 @@ next_one {z} {s} {s₁} {s₂} {q} {t} a l d ne w =
               nowhere =
                   subst (λ (k : Memory). Nowhere (sizes_in z) k i) (sym done.memory) (next-nowhere a.holds.keeps.placed xs e);
             }
+
+pub next-pop-at : {z : Sizes} {s : List ℕ} → NextAsks z s → PopAtAsks z s (slot 0 28 2) (slot 0 30 2) 0
+next-pop-at a = record { held = run-held a.holds; asks = λ h. next-pop a (run-loaded h) }
+
+pub next-taken : {z : Sizes} {s s' : List ℕ} {l : ℕ} → NextAsks z s → PoppedAt z s s' (slot 0 28 2) (slot 0 30 2) 0 l → NextTaken z s s' l
+next-taken {z} {s} {s'} {l = zero} a p = subst (λ (t : List ℕ). NextTaken z s t 0) (sym (p.none refl)) (next-none a (run-loaded p.held) p.popped refl)
+next-taken {z} {s} {s'} {l = suc k} a p =
+    next_one a (run-loaded p.held) p.popped (λ e. absurd (omega (arith, e))) (run-stored (p.one (λ e. absurd (omega (arith, e)))))

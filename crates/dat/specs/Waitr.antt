@@ -1,7 +1,7 @@
 -- The own waitr: what `wait_on` and `wake_waitr` ask and ensure.
 use Rattle.std.specs.Prelude.{◌≡◌, refl, Bool, true, false, not, List, [], ◌∷◌, ℕ, suc, ◌<◌, eqb}
 use Rattle.std.proofs.Common.{sym, ap, subst, ◌∙◌, arith, ne_eqb}
-use Rattle.std.proofs.lemmas.Bool.{not-true}
+use Rattle.std.proofs.lemmas.Bool.{both_ways}
 use Rattle.machine.specs.Machine.{Machine, process}
 use Rattle.machine.specs.Update.{with_process, with_on_waitr}
 use Rattle.machine.specs.Places.{ready}
@@ -115,24 +115,21 @@ wakes-yes : (m : Machine) (i : ℕ) → (process m i).on_waitr ≡ true → (wak
 unfolding wake_waitr
 wakes-yes m i e = rw e
 
-not-both : {x : Bool} → x ≡ true → x ≡ false → ⊥
-not-both a b = let e : true ≡ false = sym a ∙ b in let d : ◌≡◌ {A = ℕ} 0 1 = cc in omega arith
-
 own-no : {z : Sizes} {s : List ℕ} {i : ℕ} → OwnAsks z s i → waits_on (mem_in z s) i ≡ false → WokeOwn z s s i false
 own-no {z} {s} {i} a e =
     let o : (process (machine_in z s) i).on_waitr ≡ false = waitr_of (holds-bounds a.holds) i (a.holds.keeps.placed.free i) ∙ e in
     record {
       answer = sym e;
       no = λ _. refl;
-      yes = λ x. absurd (not-both refl (sym x));
+      yes = λ x. absurd (both_ways _ (sym x) refl);
       holds = λ n h. h;
       machine = sym (wakes-no (machine_in z s) i o);
       asleep = o;
       touched = touched_none;
     }
 
-pub own-not : {z : Sizes} {s : List ℕ} {i : ℕ} {t : Bool} → OwnAsks z s i → OnWaitr z s i t → not t ≡ true → WokeOwn z s s i false
-own-not {t = t} a o e = own-no a (sym o.answer ∙ not-true t e)
+pub own-not : {z : Sizes} {s : List ℕ} {i : ℕ} {t : Bool} → OwnAsks z s i → OnWaitr z s i t → t ≡ false → WokeOwn z s s i false
+own-not a o e = own-no a (sym o.answer ∙ e)
 
 -- The store that takes it off.
 pub record OwnOff (z : Sizes) (s s₁ : List ℕ) (i : ℕ) : Type 0 where
@@ -189,7 +186,7 @@ own-woken {z} {s} {s₁} {s₂} {i} {t} a v e p w =
     in
     record {
       answer = sym x;
-      no = λ q. absurd (not-both refl q);
+      no = λ q. absurd (both_ways _ q refl);
       yes = λ _. y;
       holds = y.holds;
       machine = y.machine;

@@ -1,116 +1,151 @@
 // The places of processes in the lent state: the run queue, who runs, Rendez and the own waitr.
 #![tactic(auto)]
 
-pub mod lent;
-
-ghost use Rattle.std.specs.Prelude.{◌≡◌};
-ghost use Rattle.memory.specs.Link.{link, IsLink};
+ghost use Rattle.memory.specs.Link.{link};
+ghost use Rattle.state.specs.Lent.{Same};
 ghost use Rattle.dat.specs.Run.{ReadyAsks, Readied, NextAsks, NextTaken};
 ghost use Rattle.dat.specs.Asleep.{MoreAsks, More, AwakenAsks, Awakened};
 ghost use Rattle.dat.specs.Rendez.{WakeAsks, Woke, SleepAsks, Slept};
 ghost use Rattle.dat.specs.Own.{StopAsks, Stopped, RunAsks, Ran, CallAsks, Called};
-ghost use Rattle.dat.specs.Waitr.{WaitAsks, Waited, OwnAsks, WokeOwn};
+ghost use Rattle.dat.specs.Waitr.{WaitAsks, Waited, OwnAsks, OnWaitr, WokeOwn};
 
+use queue::Fields;
 use record::Resume;
-use state::{Index, Link, Sizes, State};
+use state::{CallKind, Index, ProcState, State, field};
 
-// The same for callers that hold the bytes and the sizes apart.
-
-// The number of a link.
-fn number(l: Link) -> Index
-    requires { IsLink l }
-    ensures { result ≡ link l }
-{
-    match l {
-        None => 0,
-        Some(i) => i + 1,
-    }
-}
+// The header's fields that hold the run queue.
+const RUN: Fields = Fields {
+    head: field::RUN_HEAD,
+    tail: field::RUN_TAIL,
+};
 
 // Queues process `i` to run.
-pub fn ready(s: &mut [u8], z: Sizes, i: Index)
-    requires { ReadyAsks z s.old i }
-    ensures { Readied z s.old s.new i }
+pub fn ready(s: &mut State, i: Index)
+    requires { ReadyAsks s.old.sizes s.old.bytes.now i }
+    ensures same { Same s.old s.new }
+    ensures done { Readied s.old.sizes s.old.bytes.now s.new.bytes.now i }
 {
-    lent::ready(&mut State { bytes: s, sizes: z }, i);
+    RUN.push(s, 0, i);
+    s.set(field::STATE_OF, i, ProcState::Ready.number());
 }
 
-// Takes the first process off the run queue: the link to it, 0 for none.
-pub fn next_ready(s: &mut [u8], z: Sizes) -> Index
-    requires { NextAsks z s.old }
-    ensures { NextTaken z s.old s.new result }
+// Takes the first process off the run queue: none where nobody is ready.
+pub fn next_ready(s: &mut State) -> Option<Index>
+    requires { NextAsks s.old.sizes s.old.bytes.now }
+    ensures same { Same s.old s.new }
+    ensures done { NextTaken s.old.sizes s.old.bytes.now s.new.bytes.now (link result) }
 {
-    number(lent::next_ready(&mut State { bytes: s, sizes: z }))
+    RUN.pop(s, 0)
 }
 
 // One more is asleep.
-pub fn more_asleep(s: &mut [u8], z: Sizes)
-    requires { MoreAsks z s.old }
-    ensures { More z s.old s.new }
+pub fn more_asleep(s: &mut State)
+    requires { MoreAsks s.old.sizes s.old.bytes.now }
+    ensures same { Same s.old s.new }
+    ensures done { More s.old.sizes s.old.bytes.now s.new.bytes.now }
 {
-    lent::more_asleep(&mut State { bytes: s, sizes: z });
+    let n = s.get(field::ASLEEP_COUNT, 0);
+    s.set(field::ASLEEP_COUNT, 0, n + 1);
 }
 
-// Makes process `i`, asleep or waiting for a lock and taken off there, ready.
-pub fn awaken(s: &mut [u8], z: Sizes, i: Index)
-    requires { AwakenAsks z s.old i }
-    ensures { Awakened z s.old s.new i }
+// Makes process `i`, asleep or waiting for a lock and taken off there, ready: one fewer is asleep.
+pub fn awaken(s: &mut State, i: Index)
+    requires { AwakenAsks s.old.sizes s.old.bytes.now i }
+    ensures same { Same s.old s.new }
+    ensures done { Awakened s.old.sizes s.old.bytes.now s.new.bytes.now i }
 {
-    lent::awaken(&mut State { bytes: s, sizes: z }, i);
+    let n = s.get(field::ASLEEP_COUNT, 0);
+    s.set(field::ASLEEP_COUNT, 0, n - 1);
+    ready(s, i);
 }
 
-// Wakes the process asleep on Rendez `r`: the link to it, 0 for none.
-pub fn wakeup(s: &mut [u8], z: Sizes, r: Index) -> Index
-    requires { WakeAsks z s.old r }
-    ensures { Woke z s.old s.new r result }
+// Wakes the process asleep on Rendez `r`: none where nobody is.
+pub fn wakeup(s: &mut State, r: Index) -> Option<Index>
+    requires { WakeAsks s.old.sizes s.old.bytes.now r }
+    ensures same { Same s.old s.new }
+    ensures done { Woke s.old.sizes s.old.bytes.now s.new.bytes.now r (link result) }
 {
-    number(lent::wakeup(&mut State { bytes: s, sizes: z }, r))
+    let i = s.get(field::SLEEPER_OF, r)?;
+    s.set(field::SLEEPER_OF, r, None);
+    awaken(s, i);
+    Some(i)
 }
+
+// `sleep_on` and `wait_on` share only the count and the state: a function of both would leave a process asleep in no place, of which no
+// definition speaks.
 
 // Puts process `i` asleep on Rendez `r`.
-pub fn sleep_on(s: &mut [u8], z: Sizes, i: Index, r: Index)
-    requires { SleepAsks z s.old i r }
-    ensures { Slept z s.old s.new i r }
+pub fn sleep_on(s: &mut State, i: Index, r: Index)
+    requires { SleepAsks s.old.sizes s.old.bytes.now i r }
+    ensures same { Same s.old s.new }
+    ensures done { Slept s.old.sizes s.old.bytes.now s.new.bytes.now i r }
 {
-    lent::sleep_on(&mut State { bytes: s, sizes: z }, i, r);
+    more_asleep(s);
+    s.set(field::SLEEPER_OF, r, Some(i));
+    s.set(field::STATE_OF, i, ProcState::Asleep.number());
 }
 
 // Nobody runs: whoever ran is taken off.
-pub fn stop(s: &mut [u8], z: Sizes)
-    requires { StopAsks z s.old }
-    ensures { Stopped z s.old s.new }
+pub fn stop(s: &mut State)
+    requires { StopAsks s.old.sizes s.old.bytes.now }
+    ensures same { Same s.old s.new }
+    ensures done { Stopped s.old.sizes s.old.bytes.now s.new.bytes.now }
 {
-    lent::stop(&mut State { bytes: s, sizes: z });
+    s.set(field::UP, 0, None);
 }
 
 // Process `i` runs.
-pub fn set_up(s: &mut [u8], z: Sizes, i: Index)
-    requires { RunAsks z s.old i }
-    ensures { Ran z s.old s.new i }
+pub fn set_up(s: &mut State, i: Index)
+    requires { RunAsks s.old.sizes s.old.bytes.now i }
+    ensures same { Same s.old s.new }
+    ensures done { Ran s.old.sizes s.old.bytes.now s.new.bytes.now i }
 {
-    lent::set_up(&mut State { bytes: s, sizes: z }, i);
+    s.set(field::UP, 0, Some(i));
+    s.set(field::STATE_OF, i, ProcState::Running.number());
 }
 
 // Where the call of process `i` goes on.
-pub fn set_resume(s: &mut [u8], z: Sizes, i: Index, r: Resume)
-    requires { CallAsks z s.old i r }
-    ensures { Called z s.old s.new i r }
+pub fn set_resume(s: &mut State, i: Index, r: Resume)
+    requires { CallAsks s.old.sizes s.old.bytes.now i r }
+    ensures same { Same s.old s.new }
+    ensures done { Called s.old.sizes s.old.bytes.now s.new.bytes.now i r }
 {
-    lent::set_resume(&mut State { bytes: s, sizes: z }, i, r);
+    r.store(s, i);
 }
 
 // Puts process `i` asleep on its own waitr.
-pub fn wait_on(s: &mut [u8], z: Sizes, i: Index)
-    requires { WaitAsks z s.old i }
-    ensures { Waited z s.old s.new i }
+pub fn wait_on(s: &mut State, i: Index)
+    requires { WaitAsks s.old.sizes s.old.bytes.now i }
+    ensures same { Same s.old s.new }
+    ensures done { Waited s.old.sizes s.old.bytes.now s.new.bytes.now i }
 {
-    lent::wait_on(&mut State { bytes: s, sizes: z }, i);
+    more_asleep(s);
+    let asleep = ProcState::Asleep;
+    s.set(field::STATE_OF, i, asleep.number());
 }
 
-// Wakes process `i` where it is asleep on its own waitr: was it?
-pub fn wake_waitr(s: &mut [u8], z: Sizes, i: Index) -> bool
-    requires { OwnAsks z s.old i }
-    ensures { WokeOwn z s.old s.new i result }
+// Is process `i` asleep on its own waitr?
+fn on_waitr(s: &State, i: Index) -> bool
+    requires { OwnAsks s.now.sizes s.now.bytes.now i }
+    ensures { OnWaitr s.now.sizes s.now.bytes.now i result }
 {
-    lent::wake_waitr(&mut State { bytes: s, sizes: z }, i)
+    s.get(field::STATE_OF, i) == ProcState::Asleep.number()
+        && s.get(field::RESUME_KIND, i) == CallKind::Wait.number()
+}
+
+// What wakes a process on a Rendez is the Rendez's link to it, and on its own waitr its own state and call: `wakeup` and `wake_waitr` share
+// `awaken`.
+
+// Wakes process `i` where it is asleep on its own waitr: was it?
+pub fn wake_waitr(s: &mut State, i: Index) -> bool
+    requires { OwnAsks s.old.sizes s.old.bytes.now i }
+    ensures same { Same s.old s.new }
+    ensures done { WokeOwn s.old.sizes s.old.bytes.now s.new.bytes.now i result }
+{
+    let asleep = on_waitr(s, i);
+    if asleep {
+        s.set(field::STATE_OF, i, ProcState::Ready.number());
+        awaken(s, i);
+    }
+    asleep
 }

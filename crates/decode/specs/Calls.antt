@@ -1,6 +1,7 @@
 -- Each kind of step: its fields, as the code reads them, make the body that the bytes ask.
-use Rattle.std.specs.Prelude.{◌≡◌, refl, List, ℕ, ◌+◌, ◌*◌, length, get_or, take, drop, Option, Some, None, MatchOption, ⊤}
-use Rattle.std.proofs.Common.{sym, ap, ◌∙◌, arith, length-drop, take_all, ne_eqb}
+use Rattle.std.specs.Prelude.{◌≡◌, refl, List, ℕ, ◌+◌, ◌*◌, length, get_or, Option, Some, None, MatchOption, ⊤}
+use Rattle.std.proofs.Common.{sym, arith, ne_eqb}
+use denote.Ref.{Bor}
 use Rattle.std.proofs.Math.Option as math
 use Rattle.std.proofs.Math.Option.{none, some}
 use Rattle.machine.specs.Step.{Body, kinds, fill, start, rfork, name, sched, yield, sleep, tsleep, wakeup, qlock, canqlock, qunlock, cond, clock, tadd, tdel, intr, due, exit, wait}
@@ -12,22 +13,18 @@ use Rattle.decode.specs.Fields.{Fields, IsString, NoString}
 use Rattle.decode.specs.Kinds.{form_for, numbers-body, numbers-unfit, string_body, string_unfit, no-kind}
 
 -- What the code's answer asks.
-unfoldable pub asked : Option Call → List ℕ → math.Option Body
-asked None b = none
-asked (Some c) b = some (body_of c b)
+unfoldable pub asked : Option Call → math.Option Body
+asked None = none
+asked (Some c) = some (body_of c)
 
 -- It is what the bytes ask.
 pub record Read (b : List ℕ) (r : Option Call) : Type 0 where
-  pub body : asked r b ≡ decode_body kinds b
-  pub ranged : MatchOption r ⊤ (λ c. Ranged c b)
+  pub body : asked r ≡ decode_body kinds b
+  pub ranged : MatchOption r ⊤ Ranged
 
 unread : {b : List ℕ} → decode_body kinds b ≡ none → Read b None
 unfolding asked
 unread e = record { body = sym e; ranged = tt }
-
--- A byte string goes to the end of the bytes.
-whole_string : (b : List ℕ) (n : ℕ) → 6 + n ≡ length b → take n (drop 6 b) ≡ drop 6 b
-whole_string b n e = take_all n (drop 6 b) (simp length-drop (omega arith))
 
 module _ {b : List ℕ} where
   pub read-start : {xs : List ℕ} → get_or b 0 0 ≡ 1 → Fields 1 b xs → Read b (Some (Start (get_or xs 0 0)))
@@ -46,11 +43,9 @@ module _ {b : List ℕ} where
   unfolding kinds form_for
   unread-rfork e h = unread (numbers-unfit b e 2 rfork refl h)
 
-  pub read-name : {n : ℕ} → get_or b 0 0 ≡ 3 → IsString b n → Read b (Some (Name n))
+  pub read-name : {s : Bor (List ℕ)} → get_or b 0 0 ≡ 3 → IsString b s.now → Read b (Some (Name s))
   unfolding asked body_of Ranged kinds form_for
-  read-name {n} e h =
-      let l : 6 + n ≡ length b = omega (arith, h.exact) in
-      record { body = ap (λ (x : List ℕ). some (name x)) (whole_string b n l) ∙ sym (string_body b e name refl h); ranged = l }
+  read-name e h = record { body = sym (string_body b e name refl h); ranged = tt }
 
   pub unread-name : get_or b 0 0 ≡ 3 → NoString b → Read b None
   unfolding kinds form_for
@@ -168,11 +163,9 @@ module _ {b : List ℕ} where
   unfolding kinds form_for
   unread-due e h = unread (numbers-unfit b e 0 due refl h)
 
-  pub read-exit : {n : ℕ} → get_or b 0 0 ≡ 18 → IsString b n → Read b (Some (Exit n))
+  pub read-exit : {s : Bor (List ℕ)} → get_or b 0 0 ≡ 18 → IsString b s.now → Read b (Some (Exit s))
   unfolding asked body_of Ranged kinds form_for
-  read-exit {n} e h =
-      let l : 6 + n ≡ length b = omega (arith, h.exact) in
-      record { body = ap (λ (x : List ℕ). some (exit x)) (whole_string b n l) ∙ sym (string_body b e exit refl h); ranged = l }
+  read-exit e h = record { body = sym (string_body b e exit refl h); ranged = tt }
 
   pub unread-exit : get_or b 0 0 ≡ 18 → NoString b → Read b None
   unfolding kinds form_for

@@ -13,8 +13,8 @@ use Rattle.decode.specs.Calls.{asked, Read}
 
 -- The answer stands for the step that the bytes are.
 pub record Decodes (b : List ℕ) (d : Option Decoded) : Type 0 where
-  pub step : step_of d b ≡ decode b
-  pub ranged : MatchOption d ⊤ (λ x. Ranged x.call b)
+  pub step : step_of d ≡ decode b
+  pub ranged : MatchOption d ⊤ (λ x. Ranged x.call)
 
 -- No step: two bytes are missing, the mark is neither 0 nor 1, or the bytes do not fit their kind.
 pub decodes-short : {b : List ℕ} → length b < 2 → Decodes b None
@@ -56,17 +56,17 @@ pub decodes-step
     → Decodes b (Some (record { marked = eqb (get_or b 1 0) 1; call = r }))
 unfolding decode step_of asked
 decodes-step {b} {r} l m h =
-    record { step = rw (le-ltb (length b) 2 l, ← h.body) (marking_as (get_or b 1 0) (body_of r b) m); ranged = h.ranged }
+    record { step = rw (le-ltb (length b) 2 l, ← h.body) (marking_as (get_or b 1 0) (body_of r) m); ranged = h.ranged }
 
 -- For whoever goes by cases on the answer: the step that it is, and none.
 pub is-step
     : {b : List ℕ} {o : Option Decoded} {d : Decoded}
     → Decodes b o
     → o ≡ Some d
-    → decode b ≡ some (record { marked = d.marked; body = body_of d.call b })
+    → decode b ≡ some (record { marked = d.marked; body = body_of d.call })
 unfolding step_of
-is-step {b} h e = sym h.step ∙ ap (λ (x : Option Decoded). step_of x b) e
+is-step {b} h e = sym h.step ∙ ap (λ (x : Option Decoded). step_of x) e
 
 pub is_none : {b : List ℕ} {o : Option Decoded} → Decodes b o → o ≡ None → decode b ≡ none
 unfolding step_of
-is_none {b} h e = sym h.step ∙ ap (λ (x : Option Decoded). step_of x b) e
+is_none {b} h e = sym h.step ∙ ap (λ (x : Option Decoded). step_of x) e

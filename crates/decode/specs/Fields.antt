@@ -1,6 +1,6 @@
 -- Fields, read from bytes.
-use Rattle.std.specs.Prelude.{◌≡◌, refl, Bool, true, false, ◌&&◌, List, ℕ, ◌+◌, ◌*◌, ◌≤◌, ◌<◌, eqb, leb, length, get_or, set}
-use Rattle.std.proofs.Common.{sym, subst, ◌∙◌, arith, eqb-true, length-set, get_or-set_same, get_or-set_other}
+use Rattle.std.specs.Prelude.{◌≡◌, refl, Bool, true, false, ◌&&◌, List, ℕ, ◌+◌, ◌*◌, ◌-◌, ◌≤◌, ◌<◌, eqb, leb, length, get_or, set, take, drop}
+use Rattle.std.proofs.Common.{sym, subst, ◌∙◌, arith, eqb-true, length-set, length-drop, take_all, get_or-set_same, get_or-set_other}
 use Rattle.std.proofs.lemmas.Bool.{eqb-false}
 use Rattle.memory.specs.Le.{le}
 use Rattle.decode.specs.Means.{Below}
@@ -45,10 +45,15 @@ filled_more {n} {b} {xs} {j} {v} f h w =
 pub filled : {n : ℕ} {b xs : List ℕ} → Filled n b xs n → Fields n b xs
 filled f = record { exact = f.exact; number = f.number }
 
--- A byte string of n bytes is all of them; there is none.
-pub record IsString (b : List ℕ) (n : ℕ) : Type 0 where
-  pub exact : length b ≡ 6 + n
-  pub value : n ≡ le 4 b 2
+-- A byte string s is all of them behind its length; there is none.
+pub record IsString (b s : List ℕ) : Type 0 where
+  pub exact : length b ≡ 6 + le 4 b 2
+  pub value : s ≡ drop 6 b
 
 pub record NoString (b : List ℕ) : Type 0 where
   pub unfit : (leb 6 (length b) && eqb (length b) (6 + le 4 b 2)) ≡ false
+
+-- What the code of `string` shows.
+pub is-string : {b s : List ℕ} {n : ℕ} → n ≡ le 4 b 2 → length b ≡ 6 + n → s ≡ take (length b - 6) (drop 6 b) → IsString b s
+is-string {b} e l v =
+    record { exact = omega (arith, e, l); value = v ∙ take_all (length b - 6) (drop 6 b) (simp length-drop (omega arith)) }

@@ -1,5 +1,5 @@
 -- The kind that the first byte names, and what the bytes are as a step of it.
-use Rattle.std.specs.Prelude.{if◌then◌else◌, ◌≡◌, refl, Bool, true, false, List, [], ◌∷◌, ℕ, ◌+◌, ◌*◌, eqb, length, get_or, drop}
+use Rattle.std.specs.Prelude.{if◌then◌else◌, ◌≡◌, refl, Bool, true, false, List, [], ◌∷◌, ℕ, ◌+◌, ◌*◌, eqb, length, get_or}
 use Rattle.std.proofs.Common.{◌∙◌, arith, eq-eqb, ne_eqb, le-leb}
 use Rattle.std.proofs.Math.Option.{Option, none, some}
 use Rattle.memory.specs.Le.{le}
@@ -40,11 +40,11 @@ unfolding as_form decode_form
 numbers-unfit b {k} e n f g l = by-form kinds b ∙ rw (e, g, ne_eqb (length b) (2 + 8 * n) l)
 
 -- A kind that takes a byte string, which fits or does not.
-pub string_body : (b : List ℕ) {k : ℕ} → get_or b 0 0 ≡ k → (f : List ℕ → Body) → form_for kinds k ≡ some (takes_bytes f) → {n : ℕ} → IsString b n → decode_body kinds b ≡ some (f (drop 6 b))
+pub string_body : (b : List ℕ) {k : ℕ} → get_or b 0 0 ≡ k → (f : List ℕ → Body) → form_for kinds k ≡ some (takes_bytes f) → {s : List ℕ} → IsString b s → decode_body kinds b ≡ some (f s)
 unfolding as_form decode_form
-string_body b {k} e f g {n} h =
+string_body b {k} e f g {s} h =
     by-form kinds b
-    ∙ rw (e, g, le-leb 6 (length b) (omega (arith, h.exact)), eq-eqb (length b) (6 + le 4 b 2) (omega (arith, h.exact, h.value)))
+    ∙ rw (e, g, h.value, le-leb 6 (length b) (omega (arith, h.exact)), eq-eqb (length b) (6 + le 4 b 2) h.exact)
 
 pub string_unfit : (b : List ℕ) {k : ℕ} → get_or b 0 0 ≡ k → (f : List ℕ → Body) → form_for kinds k ≡ some (takes_bytes f) → NoString b → decode_body kinds b ≡ none
 unfolding as_form decode_form

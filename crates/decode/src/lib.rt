@@ -29,12 +29,12 @@ pub struct TaddFields {
     pub reading: u64,
 }
 
-// What a step asks. A byte string is the bytes from 6 on, as many as `length` says.
+// What a step asks: its numbers as the bytes have them, since one out of range is refused only when the step is taken, and its byte string.
 #[derive(Clone, Copy, Debug, PartialEq, Eq)]
-pub enum Call {
+pub enum Call<'a> {
     Start { how: u64 },
     Rfork { flags: u64, how: u64 },
-    Name { length: usize },
+    Name { bytes: &'a [u8] },
     Sched,
     Yield,
     Sleep { rendez: u64, condition: u64 },
@@ -49,15 +49,15 @@ pub enum Call {
     Tdel { timer: u64 },
     Intr { reading: u64 },
     Due,
-    Exit { length: usize },
+    Exit { status: &'a [u8] },
     Wait,
 }
 
 // A step, and whether it is marked as taken in interrupt context.
 #[derive(Clone, Copy, Debug, PartialEq, Eq)]
-pub struct Decoded {
+pub struct Decoded<'a> {
     pub marked: bool,
-    pub call: Call,
+    pub call: Call<'a>,
 }
 
 // Field `j` as a number.
@@ -84,9 +84,9 @@ fn numbers<const N: usize>(b: &[u8]) -> Option<[u64; N]>
     Some(fields)
 }
 
-// How long the byte string of a kind is that takes one, where it is all the bytes.
-fn string(b: &[u8]) -> Option<usize>
-    ensures { MatchOption result (NoString b.now) (IsString b.now) }
+// The byte string of a kind that takes one, behind its length, where these are all the bytes.
+fn string(b: &[u8]) -> Option<&[u8]>
+    ensures { MatchOption result (NoString b.now) (λ s. IsString b.now s.now) }
 {
     if b.len() < 6 {
         return None;
@@ -95,12 +95,12 @@ fn string(b: &[u8]) -> Option<usize>
     if b.len() != 6 + length {
         return None;
     }
-    Some(length)
+    Some(&b[6..])
 }
 
 // What the bytes ask, by the kind that the first of them names.
 #[tactic(auto, using(crate::specs::Calls::reading))]
-fn read(b: &[u8]) -> Option<Call>
+fn read(b: &[u8]) -> Option<Call<'_>>
     requires { 2 ≤ length b.now }
     ensures { Read b.now result }
 {
@@ -114,8 +114,8 @@ fn read(b: &[u8]) -> Option<Call>
             Some(Call::Rfork { flags, how })
         }
         3 => {
-            let length = string(b)?;
-            Some(Call::Name { length })
+            let bytes = string(b)?;
+            Some(Call::Name { bytes })
         }
         4 => {
             let [] = numbers::<0>(b)?;
@@ -191,8 +191,8 @@ fn read(b: &[u8]) -> Option<Call>
             Some(Call::Due)
         }
         18 => {
-            let length = string(b)?;
-            Some(Call::Exit { length })
+            let status = string(b)?;
+            Some(Call::Exit { status })
         }
         19 => {
             let [] = numbers::<0>(b)?;
@@ -202,8 +202,8 @@ fn read(b: &[u8]) -> Option<Call>
     }
 }
 
-// The step that bytes are, if they are one.
-pub fn decode(b: &[u8]) -> Option<Decoded>
+// The step that bytes are, if they are one. Of others there is nothing more to tell, so this is an `Option`, and no `TryFrom` with an error.
+pub fn decode(b: &[u8]) -> Option<Decoded<'_>>
     ensures { Decodes b.now result }
 {
     if b.len() < 2 {

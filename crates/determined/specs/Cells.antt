@@ -9,17 +9,12 @@ use Rattle.layout.specs.Memory.{Memory}
 use Rattle.state.specs.Fields as fields
 use Rattle.state.specs.Abs.{table, exit_list, exit_at}
 use Rattle.state.specs.Tables.{table-length, table-get}
+use Rattle.state.specs.Reads.{cells-back}
 use Rattle.state.specs.WellFormed.{Used}
-use Rattle.exact.specs.Tables.{map_back}
 use Rattle.lists.specs.Lists.{each-count}
 use Rattle.determined.specs.Chains.{LinksSame, same-chain, map_same}
 use Rattle.determined.specs.Twins.{Twins, Same, twins_back}
 use Rattle.determined.specs.Records.{same_use, same-process}
-
--- Which cells a list of exits takes.
-cells-back : (m : Memory) (xs : List ℕ) → map (λ (e : Exit). e.cell) (map (exit_at m) xs) ≡ xs
-unfolding exit_at
-cells-back m xs = map_back (exit_at m) (λ (e : Exit). e.cell) (λ c. refl) xs
 
 module _ {z : Sizes} {m m' : Memory} (w : Twins z m m') where
   -- The exits of a record in use.

@@ -12,7 +12,8 @@ use Rattle.state.specs.Fields as fields
 use Rattle.state.specs.Abs.{is_set, exit_list, exit_at, process_at, machine_of}
 use Rattle.state.specs.WellFormed.{Used}
 use Rattle.rules.specs.Facts.{sum_below}
-use Rattle.exact.specs.Sums.{bit-small, Family, sum_same}
+use Rattle.lists.specs.Lists.{bit-small}
+use Rattle.exact.specs.Sums.{Family, sum_same}
 use Rattle.exact.proofs.Sums.{family-most}
 use Rattle.exact.specs.Tables.{count_concat, map_back}
 use Rattle.exact.specs.Resumes.{set_test, unset_test, test_set}

@@ -1,11 +1,11 @@
 -- What the numbers of a switched-out call say of the call, and the other way round.
 use Rattle.std.specs.Prelude.{◌≡◌, refl, Bool, true, false, ◌&&◌, ◌||◌, ◌⊎◌, ℕ, zero, suc, ◌+◌, ◌≤◌, ◌<◌, eqb}
-use Rattle.std.proofs.Common.{sym, subst, inl, inr, ⊎_elim, arith, eqb-true, eq-eqb, ne_eqb}
-use Rattle.std.proofs.lemmas.Bool.{eqb-false, not-true, not-false}
+use Rattle.std.proofs.Common.{sym, subst, inl, inr, ⊎_elim, arith, eqb-true, eq-eqb}
+use Rattle.std.proofs.lemmas.Bool.{and_parts}
 use Rattle.machine.specs.Machine.{Sizes, nothing, in_qlock, in_wait}
 use Rattle.machine.specs.Good.{SleepsOn, IsTsleep, ResumeInRange}
 use Rattle.state.specs.Abs.{resume_of, is_set}
-use Rattle.exact.specs.Sums.{true-false}
+pub use Rattle.rules.specs.Tests.{set_test, unset_test, test_set, test_unset}
 use Rattle.lists.specs.Lists.{bit}
 
 abbrev pub Sleeps : ℕ → Type 0
@@ -140,35 +140,19 @@ pub sleeps_test : (s k : ℕ) → s ≡ 3 → Sleeps k → in_sleeps s k ≡ tru
 sleeps_test s k e (inl d) = rw (e, d)
 sleeps_test s k e (inr d) = rw (e, d)
 
-pub and_true : (a b : Bool) → (a && b) ≡ true → (a ≡ true) × (b ≡ true)
-and_true true b e = (refl, e)
-and_true false b e = absurd (true-false (sym e))
-
 pub or_true : (a b : Bool) → (a || b) ≡ true → (a ≡ true) ⊎ (b ≡ true)
 or_true true b e = inl refl
 or_true false b e = inr e
 
 pub test_sleeps : (s k : ℕ) → in_sleeps s k ≡ true → (s ≡ 3) × Sleeps k
 test_sleeps s k e =
-    let p : (eqb s 3 ≡ true) × ((eqb k 1 || eqb k 2) ≡ true) = and_true (eqb s 3) (eqb k 1 || eqb k 2) e in
+    let p : (eqb s 3 ≡ true) × ((eqb k 1 || eqb k 2) ≡ true) = and_parts (eqb s 3) (eqb k 1 || eqb k 2) e in
     (eqb-true s 3 p.0, ⊎_elim (λ d. inl (eqb-true k 1 d)) (λ d. inr (eqb-true k 2 d)) (or_true (eqb k 1) (eqb k 2) p.1))
 
 pub test_both : (s k v : ℕ) → (eqb s 3 && eqb k v) ≡ true → (s ≡ 3) × (k ≡ v)
 test_both s k v e =
-    let p : (eqb s 3 ≡ true) × (eqb k v ≡ true) = and_true (eqb s 3) (eqb k v) e in
+    let p : (eqb s 3 ≡ true) × (eqb k v ≡ true) = and_parts (eqb s 3) (eqb k v) e in
     (eqb-true s 3 p.0, eqb-true k v p.1)
 
 pub both_test : (s k v : ℕ) → s ≡ 3 → k ≡ v → (eqb s 3 && eqb k v) ≡ true
 both_test s k v e d = rw (eq-eqb s 3 e, eq-eqb k v d)
-
-pub set_test : (v : ℕ) → 0 < v → is_set v ≡ true
-set_test v h = rw (ne_eqb v 0 (λ e. omega arith))
-
-pub unset_test : (v : ℕ) → v ≡ 0 → is_set v ≡ false
-unset_test v e = rw (eq-eqb v 0 e)
-
-pub test_set : (v : ℕ) → is_set v ≡ true → 0 < v
-test_set v e = omega (arith, eqb-false v 0 (not-true (eqb v 0) e))
-
-pub test_unset : (v : ℕ) → is_set v ≡ false → v ≡ 0
-test_unset v e = eqb-true v 0 (not-false (eqb v 0) e)

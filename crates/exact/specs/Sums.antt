@@ -2,18 +2,12 @@
 use Rattle.std.specs.Prelude.{◌≡◌, refl, Bool, true, false, List, [], ◌∷◌, ℕ, zero, suc, ◌+◌, ◌≤◌, ◌<◌, eqb, ltb, length}
 use Rattle.std.proofs.Common.{sym, ap, subst, ◌∙◌, arith, not-suc-le-zero, eqb-true, eq-eqb, ne_eqb, ltb-true, ltb-false}
 use Rattle.std.proofs.lemmas.Bool.{eqb-false}
+pub use Rattle.std.proofs.lemmas.Bool.{true≢false as true-false}
 use Rattle.machine.specs.Basics.{count}
 use Rattle.machine.specs.Good.{Each}
 use Rattle.lists.specs.Lists.{bit, each-count}
-use Rattle.chain.specs.Lists.{Below, Absent, Distinct}
+use Rattle.chain.specs.Lists.{Below, Absent, Distinct, count-absent}
 use Rattle.rules.specs.Facts.{count_below, sum_below}
-
-pub true-false : true ≡ false → ⊥
-true-false e = let z : ◌≡◌ {A = ℕ} 0 1 = cc in omega arith
-
-pub bit-small : (b : Bool) → bit b ≤ 1
-bit-small true = omega arith
-bit-small false = omega arith
 
 -- Sums term by term.
 pub sum_same : (n : ℕ) (f g : ℕ → ℕ) → ((i : ℕ) → i < n → f i ≡ g i) → sum_below n f ≡ sum_below n g
@@ -102,13 +96,6 @@ count-sum zero test = refl
 count-sum (suc n) test = omega (arith, count-sum n test)
 
 -- How often a number stands in a list.
-pub count-absent : (xs : List ℕ) (k : ℕ) → Absent k xs → count k xs ≡ 0
-count-absent xs k a = go (ltb 0 (count k xs)) refl
-  where
-    go : (b : Bool) → ltb 0 (count k xs) ≡ b → count k xs ≡ 0
-    go true e = absurd (each-count (λ x. k ≡ x → ⊥) xs a k (ltb-true 0 (count k xs) e) refl)
-    go false e = omega (arith, ltb-false 0 (count k xs) e)
-
 pub count_past : (n : ℕ) (xs : List ℕ) (k : ℕ) → Below n xs → n ≤ k → count k xs ≡ 0
 count_past n xs k b l = go (ltb 0 (count k xs)) refl
   where

@@ -80,6 +80,7 @@ unfolding running_in
 distinct-link zero = tt
 distinct-link (suc i) = (tt, tt)
 
+-- The crates above cite this one.
 pub some-link : (l i : ℕ) → link_to l ≡ some i → l ≡ suc i
 some-link zero i e = absurd (let z : ◌≡◌ {A = ℕ} 0 1 = cc in omega arith)
 some-link (suc j) i e = let d : j ≡ i = cc in ap suc d

@@ -12,7 +12,8 @@ use Rattle.state.specs.Fields as fields
 use Rattle.state.specs.Abs.{link_to, is_set, run_list, waiter_list, waits_on, machine_of}
 use Rattle.state.specs.WellFormed.{Used, Tagged}
 use Rattle.rules.specs.Facts.{is_ready, is_queueing, SleepsHere, WaitsHere}
-use Rattle.exact.specs.Sums.{bit-small, bit-most, sum-some}
+use Rattle.lists.specs.Lists.{bit-small}
+use Rattle.exact.specs.Sums.{bit-most, sum-some}
 use Rattle.exact.specs.Tables.{count-link, link-some}
 use Rattle.exact.specs.Bounds.{InBounds, at_most}
 use Rattle.exact.specs.Resumes.{Sleeps, in_sleeps, five, five-most, five-kind, sleeps-resume, lock-resume, sleeps_test, both_test}

@@ -1,9 +1,8 @@
 -- The functions on one word: its lowest clear bit, and a bit set or cleared.
 use Rattle.std.specs.Prelude.{◌≡◌, Bool, List, ℕ, ◌+◌, ◌-◌, ◌*◌, ◌%◌, ◌^◌, ◌≤◌, ◌<◌, eqb}
-use Rattle.std.proofs.Common.{◌∙◌, arith, one-mul, shl_exact, Fits}
+use Rattle.std.proofs.Common.{sym, subst, ◌∙◌, arith, one-mul, shl_exact}
 use Rattle.std.specs.Int.Count.{count_trailing_zeros}
 use Rattle.std.proofs.lemmas.Nat.{trailing_le}
-use Rattle.std.specs.Int.{w16}
 use Rattle.layout.specs.Table.{slot}
 use Rattle.state.specs.WellFormed.{bits, is_full}
 use Rattle.state.specs.Places.{cell_in, ReachIn, PutIn}
@@ -35,7 +34,7 @@ pub record ClearDone (z : Sizes) (s s' : List ℕ) (r o w b : ℕ) (t : Bool) : 
   pub put : PutIn z s s' (slot r o 8) w (cell_in z s (slot r o 8) w - 2 ^ b)
   pub full : t ≡ is_full (cell_in z s (slot r o 8) w)
 
--- What the code shows at each return.
+-- The zeros below the lowest bit that a word lacks: what the code shows at each return.
 pub first_clear_lem : (word : ℕ) → FirstClear word (count_trailing_zeros 64 (18446744073709551615 - word))
 first_clear_lem word =
     record {
@@ -43,8 +42,14 @@ first_clear_lem word =
       range = trailing_le 64 (18446744073709551615 - word);
     }
 
-pub first_fits : (word : ℕ) → Fits w16 (count_trailing_zeros 64 (18446744073709551615 - word))
-first_fits word = omega (arith, trailing_le 64 (18446744073709551615 - word))
+pub first-some
+    : (word : ℕ) {b : ℕ} → b ≡ count_trailing_zeros 64 (18446744073709551615 - word) → b < 64 → FirstClear word b × (b < 64)
+first-some word e l = (subst (FirstClear word) (sym e) (first_clear_lem word), l)
+
+pub first-none : (word : ℕ) {b : ℕ} → b ≡ count_trailing_zeros 64 (18446744073709551615 - word) → 64 ≤ b → FirstClear word 64
+first-none word {b} e l =
+    let d : b ≡ 64 = omega (arith, l, e, trailing_le 64 (18446744073709551615 - word)) in
+    subst (FirstClear word) (sym e ∙ d) (first_clear_lem word)
 
 -- A 1 shifted by b is 2 to the b.
 shifted : (b : ℕ) → b < 64 → 1 * 2 ^ b % 18446744073709551616 ≡ 2 ^ b

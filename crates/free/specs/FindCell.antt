@@ -15,7 +15,7 @@ use Rattle.free.specs.Words.{used, full_of}
 use Rattle.free.specs.Bit.{FirstClear}
 use Rattle.free.specs.Highest.{highest_free, highest_free_lem, highest-used}
 use Rattle.free.specs.FreeCell.{free_cell_lem}
-use Rattle.free.specs.Levels.{AllSet, all_words, all-before, clear_at, few_words}
+use Rattle.free.specs.Levels.{AllSet, all_words, all-before, clear_low, clear_at, few_words}
 use Rattle.free.specs.Asks.{StateIn, CellsIn}
 
 -- The link to it, which is the machine's free cell where the exits are in order; 0 where there is none.
@@ -59,7 +59,7 @@ module _ {z : Sizes} {s : List ℕ} {full v : ℕ} (a : CellsIn z s (mem_in z s 
   before : AllSet (full_above z s) v
   before j l = first_below (full_above z s) 16 j (rw (← which) l)
 
-  in_16 : v < 16
+  pub in_16 : v < 16
   in_16 =
       let h : v ≤ 16 = omega (arith, first-le (full_above z s) 16, which) in
       omega (arith, few (64 * v) (all_words v a.right.middle h before))
@@ -74,6 +74,9 @@ module _ {z : Sizes} {s : List ℕ} {full v : ℕ} (a : CellsIn z s (mem_in z s 
   module _ {words b : ℕ} (read₁ : words ≡ cell_in z s (slot 11 0 8) v) (first₁ : FirstClear words b) where
     which₁ : b ≡ first_clear (λ k. full_word z s (64 * v + k)) 64
     which₁ = first₁.clear (λ k. full_word z s (64 * v + k)) 64 (omega arith) (read₁ ∙ a.right.middle.word v in_16)
+
+    pub bit_there : b < 64
+    bit_there = clear_low v b a.right.middle in_16 which₁ off
 
     before₁ : AllSet (full_word z s) (64 * v + b)
     before₁ = all-before v b a.right.middle in_16 which₁ before
@@ -90,21 +93,23 @@ module _ {z : Sizes} {s : List ℕ} {full v : ℕ} (a : CellsIn z s (mem_in z s 
     pub cell_bit-fits : {word c : ℕ} → FirstClear word c → Fits w16 (64 * (64 * v + b) + c)
     cell_bit-fits f = omega (arith, in_1016, f.range)
 
-    -- What the code shows at its return.
-    pub found-cell
-        : {word c r : ℕ}
-        → word ≡ cell_in z s (slot 10 0 8) (64 * v + b)
-        → FirstClear word c
-        → r ≡ z.cells - (64 * (64 * v + b) + c)
-        → CellFound z s r
-    found-cell {word} {c} {r} e f d =
-        let k : c ≡ first_clear (λ j. in_use_at z s (64 * (64 * v + b) + j)) 64 =
-        f.clear (λ j. in_use_at z s (64 * (64 * v + b) + j)) 64 (omega arith) (e ∙ a.right.words.word (64 * v + b) in_1016)
-        in
-        let clear : full_word z s (64 * v + b) ≡ false = clear_at v b a.right.middle in_16 which₁ off in
-        cell-found a.state
-        (rw d
-        (highest-used z.cells (mem_in z s fields.owner) (64 * (64 * v + b) + c)
-        (all-before (64 * v + b) c a.right.words in_1016 k before₁)
-        (λ l. clear_at (64 * v + b) c a.right.words in_1016 k clear)))
-        (omega arith)
+    -- The first cell of that word.
+    module _ {word c : ℕ} (e : word ≡ cell_in z s (slot 10 0 8) (64 * v + b)) (f : FirstClear word c) where
+      here : c ≡ first_clear (λ j. in_use_at z s (64 * (64 * v + b) + j)) 64
+      here = f.clear (λ j. in_use_at z s (64 * (64 * v + b) + j)) 64 (omega arith) (e ∙ a.right.words.word (64 * v + b) in_1016)
+
+      clear : full_word z s (64 * v + b) ≡ false
+      clear = clear_at v b a.right.middle in_16 which₁ off
+
+      pub cell_there : c < 64
+      cell_there = clear_low (64 * v + b) c a.right.words in_1016 here clear
+
+      -- What the code shows at its return.
+      pub found-cell : {r : ℕ} → r ≡ z.cells - (64 * (64 * v + b) + c) → CellFound z s r
+      found-cell d =
+          cell-found a.state
+          (rw d
+          (highest-used z.cells (mem_in z s fields.owner) (64 * (64 * v + b) + c)
+          (all-before (64 * v + b) c a.right.words in_1016 here before₁)
+          (λ l. clear_at (64 * v + b) c a.right.words in_1016 here clear)))
+          (omega arith)

@@ -11,7 +11,7 @@ use Rattle.free.specs.First.{first_clear, first_below, first-here}
 use Rattle.free.specs.Words.{used, full_of}
 use Rattle.free.specs.Bit.{FirstClear}
 use Rattle.free.specs.Highest.{highest_free, highest_free_lem, highest-used, free_record_lem}
-use Rattle.free.specs.Levels.{AllSet, all_words, all-before, clear_at}
+use Rattle.free.specs.Levels.{AllSet, all_words, all-before, clear_low, clear_at}
 use Rattle.free.specs.Asks.{RecordsIn}
 
 -- The link to it, which is the machine's free record; 0 where there is none.
@@ -38,7 +38,28 @@ module _ {z : Sizes} {s : List ℕ} {full w : ℕ} (a : RecordsIn z s (mem_in z 
   before : AllSet (full_of (mem_in z s fields.used_records)) w
   before j l = first_below (full_of (mem_in z s fields.used_records)) 64 j (rw (← which) l)
 
-  -- What the code shows at each return.
+  -- the word after them, where it is there
+  module _ {word b : ℕ} (h : w < 64) (e : word ≡ cell_in z s (slot 9 0 8) w) (f : FirstClear word b) where
+    here : b ≡ first_clear (λ k. used z.processes (mem_in z s fields.pid) (64 * w + k)) 64
+    here = f.clear (λ k. used z.processes (mem_in z s fields.pid) (64 * w + k)) 64 (omega arith) (e ∙ a.right.words.word w h)
+
+    off : full_of (mem_in z s fields.used_records) w ≡ false
+    off = subst (λ (x : ℕ). full_of (mem_in z s fields.used_records) x ≡ false) (sym which) (first-here (full_of (mem_in z s fields.used_records)) 64 (rw which at h))
+
+    pub bit-there : b < 64
+    bit-there = clear_low w b a.right.words h here off
+
+    -- What the code shows where it finds one.
+    pub found-record : {r : ℕ} → r ≡ z.processes - (64 * w + b) → RecordFound z s r
+    found-record d =
+        record_found
+        (rw d
+        (highest-used z.processes (mem_in z s fields.pid) (64 * w + b)
+        (all-before w b a.right.words h here before)
+        (λ l. clear_at w b a.right.words h here off)))
+        (omega arith)
+
+  -- Where no word is left.
   pub found_none : w ≡ 64 → RecordFound z s 0
   found_none e =
       let d : z.processes - 4096 ≡ 0 = omega (arith, a.sizes.processes.1) in
@@ -47,26 +68,4 @@ module _ {z : Sizes} {s : List ℕ} {full w : ℕ} (a : RecordsIn z s (mem_in z 
       in
       record_found
       (ap link_to (sym d) ∙ highest-used z.processes (mem_in z s fields.pid) 4096 all (λ l. absurd (omega (arith, a.sizes.processes.1))))
-      (omega arith)
-
-  pub found-record
-      : {word b r : ℕ}
-      → (w ≡ 64 → ⊥)
-      → word ≡ cell_in z s (slot 9 0 8) w
-      → FirstClear word b
-      → r ≡ z.processes - (64 * w + b)
-      → RecordFound z s r
-  found-record {word} {b} {r} ne e f d =
-      let h : w < 64 = omega (arith, first.range) in
-      let c : b ≡ first_clear (λ k. used z.processes (mem_in z s fields.pid) (64 * w + k)) 64 =
-      f.clear (λ k. used z.processes (mem_in z s fields.pid) (64 * w + k)) 64 (omega arith) (e ∙ a.right.words.word w h)
-      in
-      let off : full_of (mem_in z s fields.used_records) w ≡ false =
-      subst (λ (x : ℕ). full_of (mem_in z s fields.used_records) x ≡ false) (sym which) (first-here (full_of (mem_in z s fields.used_records)) 64 (rw which at h))
-      in
-      record_found
-      (rw d
-      (highest-used z.processes (mem_in z s fields.pid) (64 * w + b)
-      (all-before w b a.right.words h c before)
-      (λ l. clear_at w b a.right.words h c off)))
       (omega arith)

@@ -9,8 +9,9 @@ use Rattle.machine.specs.Good.{Each}
 use Rattle.machine.specs.Exits.{cells_used, free_cell}
 use Rattle.layout.specs.Memory.{Memory}
 use Rattle.state.specs.Fields as fields
-use Rattle.state.specs.Abs.{table, exit_list, exit_at, process_at, machine_of}
+use Rattle.state.specs.Abs.{table, exit_list, process_at, machine_of}
 use Rattle.state.specs.Tables.{table-get}
+use Rattle.state.specs.Reads.{cells-back}
 use Rattle.state.specs.WellFormed.{Used, Cells}
 use Rattle.free.specs.Highest.{highest_free, highest-same}
 
@@ -37,11 +38,6 @@ each_concat P f (suc n) g h =
 -- The cells of a record: none of a free one, and else those of its list of exits.
 abbrev cells_of : Process → List ℕ
 cells_of p = map (λ (e : Exit). e.cell) p.exits
-
-cells-back : (m : Memory) (xs : List ℕ) → map (λ (e : Exit). e.cell) (map (exit_at m) xs) ≡ xs
-unfolding exit_at
-cells-back m [] = refl
-cells-back m (x ∷ xs) = ap (λ (l : List ℕ). x ∷ l) (cells-back m xs)
 
 cells-none : (m : Memory) (i : ℕ) → eqb (m fields.pid i) 0 ≡ true → cells_of (process_at m i) ≡ []
 unfolding process_at free

@@ -35,8 +35,9 @@ module _ {n : ℕ} {u : ℕ → Bool} {x : ℕ → ℕ} (w r : ℕ) (right : Wor
           let d : 64 * w + (j - 64 * w) ≡ j = omega arith in
           subst (λ (k : ℕ). u k ≡ true) d (first_below (λ b. u (64 * w + b)) 64 (j - 64 * w) (omega arith))
 
-  pub clear_at : full_of x w ≡ false → u (64 * w + r) ≡ false
-  clear_at off = rw first (first-here (λ b. u (64 * w + b)) 64 (go (ltb (first_clear (λ b. u (64 * w + b)) 64) 64) refl))
+  -- the word has one
+  pub clear_low : full_of x w ≡ false → r < 64
+  clear_low off = rw first (go (ltb (first_clear (λ b. u (64 * w + b)) 64) 64) refl)
     where
       go : (t : Bool) → ltb (first_clear (λ b. u (64 * w + b)) 64) 64 ≡ t → first_clear (λ b. u (64 * w + b)) 64 < 64
       go true e = ltb-true (first_clear (λ b. u (64 * w + b)) 64) 64 e
@@ -46,6 +47,9 @@ module _ {n : ℕ} {u : ℕ → Bool} {x : ℕ → ℕ} (w r : ℕ) (right : Wor
           all-full (λ b. u (64 * w + b)) 64 (λ j l. first_below (λ b. u (64 * w + b)) 64 j (omega arith))
           in
           absurd (eqb-false (x w) 18446744073709551615 off (omega (arith, right.word w index)))
+
+  pub clear_at : full_of x w ≡ false → u (64 * w + r) ≡ false
+  clear_at off = rw first (first-here (λ b. u (64 * w + b)) 64 (rw first at clear_low off))
 
 -- No more words are full than there are records, or cells.
 pub full-words : {n : ℕ} {x : ℕ → ℕ} (c : ℕ) (g : ℕ → ℕ) (w : ℕ) → Words n (used c g) x → w ≤ n → AllSet (full_of x) w → 64 * w ≤ c

@@ -12,11 +12,12 @@ use Rattle.machine.specs.Places.{open_places}
 use Rattle.machine.specs.Exits.{free_record}
 use Rattle.machine.specs.Table.{one_of, refusal, open_table}
 use Rattle.machine.specs.Perform.{current, made, start_of, rfork_of}
+use Rattle.kept.specs.Allowed.{there, allowed}
 use Rattle.history.proofs.Sound.{Sound}
 use Rattle.history.specs.History.{Says, silent, says_of, open_history}
 use Rattle.history.proofs.Lists.{get_or-set, get_or-set_kept}
 use Rattle.history.proofs.View.{View, view, made_v, nobody, Change, wakes, makes}
-use Rattle.history.proofs.Facts.{lives_of, none_of, places-at_most, up-count, free_record_lem, not_met}
+use Rattle.history.proofs.Facts.{lives_of, none_of, places-at_most, up-count, free_record_lem}
 use Rattle.history.proofs.Waking.{view_ext, view-kept}
 
 -- What a step's outcome is, seen from the machine before.
@@ -62,10 +63,6 @@ made-view text parent m i e =
     (λ k. get_or-set (λ (x : Process). x.quantum_end) m.processes j p free k there)
     refl refl refl refl refl)
 
-is_some : (o : Option ℕ) → is_none o ≡ false → (i : ℕ) × (o ≡ some i)
-is_some none e = absurd (let z : ◌≡◌ {A = ℕ} 0 1 = cc in omega arith)
-is_some (some i) e = (i, refl)
-
 -- the counting of a child changes no free record
 free-kept : (i : ℕ) (p : Process) (m : Machine) → p.pid ≡ (process m i).pid → free_record (with_process i p m) ≡ free_record m
 unfolding open_machine open_update free_record
@@ -83,7 +80,7 @@ made_changes : (m n : Machine) → Sound m → (says : Says) (text : List ℕ) (
     → says ≡ Says.made m.next_pid
     → Change (view m) says (m.next_pid ∷ []) [] 0 (view (made text parent n))
 made_changes m n g says text parent same next-same free-same room e =
-    let f : (i : ℕ) × (free_record m ≡ some i) = is_some (free_record m) room in
+    let f : (i : ℕ) × (free_record m ≡ some i) = there (free_record m) room in
     let i : ℕ = f.0 in
     let z : pid_of m i ≡ 0 = (free_record_lem m i f.1).1 in
     let made-is : view (made text parent n) ≡ made_v i m.next_pid (view m) =
@@ -104,7 +101,7 @@ step k b = record { marked = k; body = b }
 
 start-room : (m : Machine) (k : Bool) (M : ℕ) → refusal m (step k (start M)) ≡ none → is_none (free_record m) ≡ false
 unfolding open_table open_step elem
-start-room m k M h = not_met 12 m (step k (start M)) h refl
+start-room m k M h = allowed m (step k (start M)) h 12 refl
 
 pub start_changes : (m : Machine) → Sound m → (k : Bool) (M : ℕ) → refusal m (step k (start M)) ≡ none → Changes m (step k (start M)) (start_of m)
 unfolding start_of open_outcome open_history
@@ -113,7 +110,7 @@ start_changes m g k M h =
 
 rfork-room : (m : Machine) (k : Bool) (F M : ℕ) → refusal m (step k (rfork F M)) ≡ none → has F RFPROC ≡ true → is_none (free_record m) ≡ false
 unfolding open_table open_step elem
-rfork-room m k F M h e = rw e at (not_met 12 m (step k (rfork F M)) h refl)
+rfork-room m k F M h e = rw e at (allowed m (step k (rfork F M)) h 12 refl)
 
 pub rfork_changes : (m : Machine) → Sound m → (k : Bool) (F M : ℕ) → refusal m (step k (rfork F M)) ≡ none → Changes m (step k (rfork F M)) (rfork_of F m)
 unfolding rfork_of open_outcome open_history open_update

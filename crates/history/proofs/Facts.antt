@@ -1,17 +1,15 @@
 -- What a well-formed machine tells of its places, and what a step that is not refused tells.
-use Rattle.std.specs.Prelude.{if◌then◌else◌, ◌≡◌, refl, Bool, true, false, not, List, [], ◌∷◌, ◌++◌, ℕ, zero, suc, ◌+◌, ◌≤◌, ◌<◌, eqb, ltb, length}
+use Rattle.std.specs.Prelude.{if◌then◌else◌, ◌≡◌, refl, Bool, true, false, not, List, [], ◌∷◌, ◌++◌, ℕ, suc, ◌+◌, ◌≤◌, ◌<◌, eqb, ltb, length}
 use Rattle.std.proofs.Common.{sym, ap, ◌∙◌, arith, eqb-true, ltb-true, ltb-false, eq-eqb}
-use Rattle.std.proofs.Math.Option.{none, some}
+use Rattle.std.proofs.Math.Option.{some}
 use Rattle.std.proofs.lemmas.Bool.{eqb-false}
 use Rattle.std.proofs.Math.ListN.{get_or-eq_default}
-use Rattle.machine.specs.Basics.{elem, count, highest_below}
+use Rattle.machine.specs.Basics.{count}
 use Rattle.machine.specs.Machine.{Machine, Process, free, process, pid_of, living, asleep_on, open_machine}
-use Rattle.machine.specs.Step.{Step}
 use Rattle.machine.specs.Exits.{free_record}
-use Rattle.machine.specs.Table.{table, order, holds, first_of, refusal}
 use Rattle.machine.specs.Good.{InOnePlace, running_in, places}
 use Rattle.history.proofs.Lists.{count-here}
-use Rattle.lists.specs.Lists.{count-append}
+use Rattle.lists.specs.Lists.{count-append, highest-some}
 
 -- the places of a record, added up
 abbrev pub in_places : Machine → ℕ → ℕ
@@ -70,46 +68,12 @@ has_record m i l = go (ltb i (length m.processes)) refl
         omega arith)
 
 -- the highest free record is free, and there
-highest : (n : ℕ) (test : ℕ → Bool) (i : ℕ) → highest_below n test ≡ some i → (i < n) × (test i ≡ true)
-unfolding highest_below
-highest zero test i e = absurd (let z : ◌≡◌ {A = ℕ} 0 1 = cc in omega arith)
-highest (suc n) test i e = go (test n) refl (λ (d : highest_below n test ≡ some i). highest n test i d)
-  where
-    go : (b : Bool) → test n ≡ b → (highest_below n test ≡ some i → (i < n) × (test i ≡ true)) → (i < suc n) × (test i ≡ true)
-    go true t more =
-        let d : some n ≡ some i = sym (rw (t, highest_below)) ∙ e in
-        let d' : n ≡ i = cc in
-        (omega arith, ap test (sym d') ∙ t)
-    go false t more =
-        let d : highest_below n test ≡ some i = sym (rw (t, highest_below)) ∙ e in
-        let r : (i < n) × (test i ≡ true) = more d in
-        (omega arith, r.1)
-
 pub free_record_lem : (m : Machine) (i : ℕ) → free_record m ≡ some i → (i < length m.processes) × (pid_of m i ≡ 0)
 unfolding free_record open_machine
 free_record_lem m i e =
-    let h = highest (length m.processes) (λ k. not (living (process m k))) i e in
+    let h = highest-some (length m.processes) (λ k. not (living (process m k))) i e in
     (h.0, go (eqb (pid_of m i) 0) refl h.1)
   where
     go : (b : Bool) → eqb (pid_of m i) 0 ≡ b → not (living (process m i)) ≡ true → pid_of m i ≡ 0
     go true d t = eqb-true (pid_of m i) 0 d
     go false d t = absurd (let z : ◌≡◌ {A = Bool} false true = sym (ap (λ (c : Bool). not (not c)) d) ∙ t in let y : ◌≡◌ {A = ℕ} 0 1 = cc in omega arith)
-
--- no cause of the order holds where a step is not refused
-first-none : (ns : List ℕ) (n : ℕ) (m : Machine) (s : Step) → first_of ns m s ≡ none → elem n ns ≡ true → holds n table m s ≡ false
-unfolding first_of elem
-first-none [] n m s h e = absurd (let z : ◌≡◌ {A = ℕ} 0 1 = cc in omega arith)
-first-none (k ∷ ks) n m s h e = go (holds k table m s) refl (eqb n k) refl (λ (a : first_of ks m s ≡ none) (b : elem n ks ≡ true). first-none ks n m s a b)
-  where
-    go
-        : (c : Bool) → holds k table m s ≡ c
-        → (b : Bool) → eqb n k ≡ b
-        → (first_of ks m s ≡ none → elem n ks ≡ true → holds n table m s ≡ false)
-        → holds n table m s ≡ false
-    go true t b d more = absurd (let z : some k ≡ none = sym (rw (t, first_of)) ∙ h in let y : ◌≡◌ {A = ℕ} 0 1 = cc in omega arith)
-    go false t true d more = ap (λ (x : ℕ). holds x table m s) (eqb-true n k d) ∙ t
-    go false t false d more = more (sym (rw (t, first_of)) ∙ h) (sym (rw d) ∙ e)
-
-pub not_met : (n : ℕ) (m : Machine) (s : Step) → refusal m s ≡ none → elem n (order s.body) ≡ true → holds n table m s ≡ false
-unfolding refusal
-not_met n m s h e = first-none (order s.body) n m s h e

@@ -1,23 +1,19 @@
 -- A fresh machine, whatever its sizes, is sound: nobody lives, and nobody is in any place.
-use Rattle.std.specs.Prelude.{◌≡◌, refl, false, not, [], ℕ, zero, suc, eqb, get_or, replicate}
+use Rattle.std.specs.Prelude.{◌≡◌, refl, false, not, [], ℕ, zero, suc, eqb}
 use Rattle.std.proofs.Common.{sym, ap, subst, arith}
 use Rattle.std.proofs.Math.Option.{none}
 use Rattle.std.proofs.lemmas.List.{length-replicate}
 use Rattle.machine.specs.Basics.{count}
 use Rattle.machine.specs.Machine.{Process, Sizes, Lock, free, fresh, process, sleeper, lock, pid_of, open_machine}
 use Rattle.machine.specs.Good.{running_in}
+use Rattle.kept.specs.Fresh.{get_replicate}
 use Rattle.history.proofs.View.{view}
 use Rattle.history.proofs.Sound.{CallFits, Sound}
 use Rattle.history.proofs.Sums.{sum_to, hit, bit, in_view, asleep_in, OnePlace, from_view}
 
-all_same : {A : Type 0} (n k : ℕ) (a : A) → get_or (replicate n a) k a ≡ a
-all_same zero k a = refl
-all_same (suc n) zero a = refl
-all_same (suc n) (suc k) a = all_same n k a
-
 pub fresh-process : (z : Sizes) (i : ℕ) → process (fresh z) i ≡ free
 unfolding open_machine
-fresh-process z i = all_same z.processes i free
+fresh-process z i = get_replicate z.processes i free
 
 pub fresh-pid : (z : Sizes) (i : ℕ) → pid_of (fresh z) i ≡ 0
 unfolding open_machine
@@ -30,11 +26,11 @@ sum-none (suc n) f h = omega (arith, h 0, sum-none n (λ k. f (suc k)) (λ k. h 
 
 fresh-sleeper : (z : Sizes) (r : ℕ) → sleeper (fresh z) r ≡ none
 unfolding open_machine
-fresh-sleeper z r = all_same z.rendez r none
+fresh-sleeper z r = get_replicate z.rendez r none
 
 fresh-lock : (z : Sizes) (q : ℕ) → (lock (fresh z) q).waiters ≡ []
 unfolding open_machine
-fresh-lock z q = ap (λ (l : Lock). l.waiters) (all_same z.locks q (record { held = false; waiters = [] }))
+fresh-lock z q = ap (λ (l : Lock). l.waiters) (get_replicate z.locks q (record { held = false; waiters = [] }))
 
 fresh-one : (z : Sizes) → OnePlace (view (fresh z))
 unfolding in_view asleep_in fresh free running_in count hit

@@ -13,11 +13,12 @@ use Rattle.machine.specs.Timers.{add, delete}
 use Rattle.machine.specs.Table.{on, refusal, open_table}
 use Rattle.machine.specs.Perform.{current, wakeup_of, qlock_of, canqlock_of, qunlock_of, cond_of, clock_of, tadd_of, tdel_of, intr_of, due_of, exit_of, wait_of, perform}
 use Rattle.machine.specs.StepOf.{left_by, refusing, step_of, outcome_of}
+use Rattle.kept.specs.Allowed.{allowed}
 use Rattle.history.proofs.Sound.{Sound}
 use Rattle.history.specs.History.{Input, gives, silent, says_of, open_history}
 use Rattle.history.proofs.Lists.{get_or-set, get_or-set_kept, and_true}
 use Rattle.history.proofs.View.{View, view, waits_v, queues_v, gone_v, Wakes, nobody, Change, wakes, waits, queues, leaves, spends}
-use Rattle.history.proofs.Facts.{has_record, not_met}
+use Rattle.history.proofs.Facts.{has_record}
 use Rattle.history.proofs.Waking.{view_ext, wake-wakes, hand_over-wakes, tell_parent-wakes, interrupt-wakes}
 use Rattle.history.proofs.Changes.{Changes, into, unseen, up-current, up-lives, up-not-queued, step, start_changes, rfork_changes}
 use Rattle.history.proofs.Sched.{take-view, sched_changes}
@@ -63,8 +64,8 @@ queue_on-view i q m there room =
 qlock-facts : (m : Machine) (k : Bool) (Q : ℕ) → refusal m (step k (qlock Q)) ≡ none → (lock m Q).held ≡ true → (Q < m.sizes.locks) × (is_none m.up ≡ false)
 unfolding open_table open_step elem
 qlock-facts m k Q h e = (
-  ltb-true Q m.sizes.locks (once (ltb Q m.sizes.locks) (not_met 2 m (step k (qlock Q)) h refl)),
-  and_true (is_none m.up) (rw e at (not_met 4 m (step k (qlock Q)) h refl)),
+  ltb-true Q m.sizes.locks (once (ltb Q m.sizes.locks) (allowed m (step k (qlock Q)) h 2 refl)),
+  and_true (is_none m.up) (rw e at (allowed m (step k (qlock Q)) h 4 refl)),
 )
   where
     once : (b : Bool) → not b ≡ false → b ≡ true
@@ -100,7 +101,7 @@ gone-view i m there =
 
 exit-up : (m : Machine) (k : Bool) (BYTES : List ℕ) → refusal m (step k (exit BYTES)) ≡ none → is_none m.up ≡ false
 unfolding open_table open_step elem
-exit-up m k BYTES h = and_true (is_none m.up) (not_met 4 m (step k (exit BYTES)) h refl)
+exit-up m k BYTES h = and_true (is_none m.up) (allowed m (step k (exit BYTES)) h 4 refl)
 
 exit_changes : (m : Machine) → Sound m → (k : Bool) (BYTES : List ℕ) → refusal m (step k (exit BYTES)) ≡ none → Changes m (step k (exit BYTES)) (exit_of BYTES m)
 unfolding exit_of open_outcome open_history
@@ -114,7 +115,7 @@ exit_changes m g k BYTES h =
 
 wait-up : (m : Machine) (k : Bool) → refusal m (step k wait) ≡ none → is_none m.up ≡ false
 unfolding open_table open_step elem
-wait-up m k h = and_true (is_none m.up) (not_met 4 m (step k wait) h refl)
+wait-up m k h = and_true (is_none m.up) (allowed m (step k wait) h 4 refl)
 
 waitr-view : (i : ℕ) (m : Machine) → i < length m.processes → view (sleep_on_waitr i in_wait m) ≡ waits_v i (view m)
 unfolding open_machine open_update open_places

@@ -8,7 +8,7 @@ use Rattle.history.specs.History.{Says, at}
 use Rattle.history.proofs.Lists.{at_cases, at-kept, count-here, count-other}
 use Rattle.history.proofs.View.{View, gone_v, Wakes, nobody, ticking, from_rendez, from_lock, from_waitr, ◌next◌, Change, wakes, makes, dispatches, dozes, waits_on, gives_way, goes_asleep, waits, queues, leaves, spends}
 use Rattle.history.proofs.Sums.{hit, bit, asleep_in, in_view, OnePlace, sleepers-at, waiters-at}
-use Rattle.lists.specs.Lists.{count-append}
+use Rattle.lists.specs.Lists.{bit-small, count-append}
 
 -- one for j and nothing for anybody else
 abbrev one : ℕ → ℕ → ℕ
@@ -55,10 +55,6 @@ alive-off pid i j l =
     at_cases (λ (k : ℕ). alive k + one j i ≡ alive (pid j)) i 0 pid j
     (λ d. let e : alive (pid j) ≡ 1 = subst (λ (k : ℕ). alive (pid k) ≡ 1) d (alive-one (pid i) l) in omega (arith, one-here i j d, alive-not 0 refl))
     (λ d. omega (arith, one-not i j d))
-
-bit-small : (b : Bool) → bit b ≤ 1
-bit-small true = omega arith
-bit-small false = omega arith
 
 -- whoever runs, is queued, or does not live is not on its waitr
 off-waitr : (v : View) → OnePlace v → (i : ℕ) → (alive (v.pid i) ≡ 0) ⊎ (1 ≤ count i (running_in v.up) + count i v.run) → v.on_waitr i ≡ false

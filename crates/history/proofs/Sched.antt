@@ -15,11 +15,12 @@ use Rattle.machine.specs.Timers.{is_queued, own_timer, delete, open_timers}
 use Rattle.machine.specs.Table.{refusal, taken, taken_again, head_taken, open_table}
 use Rattle.machine.specs.Perform.{take_exit, newest, runs, checks_again, tsleep_checks, wait_checks, resumes, sched_of, open_perform}
 use Rattle.machine.specs.Good.{SleepsOn}
+use Rattle.kept.specs.Allowed.{allowed}
 use Rattle.history.proofs.Sound.{CallFits, Sound}
 use Rattle.history.specs.History.{Says, silent, says_answer, says_of, at, open_history}
 use Rattle.history.proofs.Lists.{get_or-set, get_or-set_kept}
 use Rattle.history.proofs.View.{View, view, nobody, Change, wakes, dispatches, dozes, waits_on}
-use Rattle.history.proofs.Facts.{lives_of, head-count, has_record, not_met}
+use Rattle.history.proofs.Facts.{lives_of, head-count, has_record}
 use Rattle.history.proofs.Waking.{view_ext, view-kept}
 use Rattle.history.proofs.Changes.{Changes, into, step}
 
@@ -199,7 +200,7 @@ module _ (m : Machine) (g : Sound m) (k : Bool) (i : ℕ) (rest : List ℕ) (nob
 
 none-up : (m : Machine) (k : Bool) → refusal m (step k sched) ≡ none → m.up ≡ none
 unfolding open_table open_step elem
-none-up m k h = go m.up (not_met 17 m (step k sched) h refl)
+none-up m k h = go m.up (allowed m (step k sched) h 17 refl)
   where
     go : (o : Option ℕ) → is_some o ≡ false → o ≡ none
     go none e = refl
@@ -207,7 +208,7 @@ none-up m k h = go m.up (not_met 17 m (step k sched) h refl)
 
 head-free : (m : Machine) (k : Bool) → refusal m (step k sched) ≡ none → (i : ℕ) (rest : List ℕ) → m.run ≡ i ∷ rest → taken_again m i (process m i).resume ≡ false
 unfolding open_table open_step elem head_taken
-head-free m k h i rest e = go m.run e (not_met 5 m (step k sched) h refl)
+head-free m k h i rest e = go m.run e (allowed m (step k sched) h 5 refl)
   where
     go : (l : List ℕ) → l ≡ i ∷ rest → (elim l as (λ (x : List ℕ). Bool) [ [] ↦ false | j ∷ more ↦ taken_again m j (process m j).resume ]) ≡ false → taken_again m i (process m i).resume ≡ false
     go [] d t = absurd (let z : ◌≡◌ {A = ℕ} 0 1 = cc in omega arith)

@@ -12,11 +12,12 @@ use Rattle.machine.specs.Timers.{add, delete}
 use Rattle.machine.specs.Table.{taken, refusal, open_table}
 use Rattle.machine.specs.Perform.{current, name_of, yield_of, sleep_of, tsleep_of}
 use Rattle.machine.specs.Good.{SleepsOn}
+use Rattle.kept.specs.Allowed.{allowed}
 use Rattle.history.proofs.Sound.{Sound}
 use Rattle.history.specs.History.{on_rendez, Says, open_history}
 use Rattle.history.proofs.Lists.{get_or-set, get_or-set_kept, and_left, and_true}
 use Rattle.history.proofs.View.{View, view, sleeps_v, nobody, Change, wakes, gives_way, goes_asleep}
-use Rattle.history.proofs.Facts.{has_record, not_met}
+use Rattle.history.proofs.Facts.{has_record}
 use Rattle.history.proofs.Waking.{view_ext, view-kept}
 use Rattle.history.proofs.Changes.{Changes, into, unseen, up-current, up-lives, step}
 
@@ -29,7 +30,7 @@ name_changes m k BYTES =
 pub yield_changes : (m : Machine) → Sound m → (k : Bool) → refusal m (step k yield) ≡ none → Changes m (step k yield) (yield_of m)
 unfolding yield_of open_outcome open_history open_update open_places open_table open_step elem open_machine
 yield_changes m g k h =
-    let u : m.up ≡ some (current m) = up-current m (and_true (is_none m.up) (not_met 4 m (step k yield) h refl)) in
+    let u : m.up ≡ some (current m) = up-current m (and_true (is_none m.up) (allowed m (step k yield) h 4 refl)) in
     gives_way (current m) u (up-lives m g (current m) u)
 
 -- asleep on a free Rendez
@@ -77,9 +78,9 @@ sleep-facts : (m : Machine) (k : Bool) (R C : ℕ) → refusal m (step k (sleep 
     → (R < m.sizes.rendez) × (is_none m.up ≡ false) × (sleeper m R ≡ none)
 unfolding open_table open_step elem
 sleep-facts m k R C h c = (
-  ltb-true R m.sizes.rendez (and_left (ltb R m.sizes.rendez) (ltb C 256) (not_met 2 m (step k (sleep R C)) h refl)),
-  and_true (is_none m.up) (rw c at (not_met 4 m (step k (sleep R C)) h refl)),
-  free-there m R C c (or_false (taken m R C) false (or_false (taken m R C || false) false (not_met 5 m (step k (sleep R C)) h refl))),
+  ltb-true R m.sizes.rendez (and_left (ltb R m.sizes.rendez) (ltb C 256) (allowed m (step k (sleep R C)) h 2 refl)),
+  and_true (is_none m.up) (rw c at (allowed m (step k (sleep R C)) h 4 refl)),
+  free-there m R C c (or_false (taken m R C) false (or_false (taken m R C || false) false (allowed m (step k (sleep R C)) h 5 refl))),
 )
 
 pub sleep_changes : (m : Machine) → Sound m → (k : Bool) (R C : ℕ) → refusal m (step k (sleep R C)) ≡ none → Changes m (step k (sleep R C)) (sleep_of R C m)
@@ -96,9 +97,9 @@ tsleep-facts : (m : Machine) (k : Bool) (R C S N NOW : ℕ) → refusal m (step 
     → (R < m.sizes.rendez) × (is_none m.up ≡ false) × (sleeper m R ≡ none)
 unfolding open_table open_step elem
 tsleep-facts m k R C S N NOW h c = (
-  ltb-true R m.sizes.rendez (range (ltb R m.sizes.rendez) (ltb C 256) _ _ _ (not_met 2 m (step k (tsleep R C S N NOW)) h refl)),
-  and_true (is_none m.up) (not_met 4 m (step k (tsleep R C S N NOW)) h refl),
-  free-there m R C c (or_false (taken m R C) false (not_met 5 m (step k (tsleep R C S N NOW)) h refl)),
+  ltb-true R m.sizes.rendez (range (ltb R m.sizes.rendez) (ltb C 256) _ _ _ (allowed m (step k (tsleep R C S N NOW)) h 2 refl)),
+  and_true (is_none m.up) (allowed m (step k (tsleep R C S N NOW)) h 4 refl),
+  free-there m R C c (or_false (taken m R C) false (allowed m (step k (tsleep R C S N NOW)) h 5 refl)),
 )
   where
     range : (a b c d e : Bool) → not (a && b && c && d && e) ≡ false → a ≡ true

@@ -2,6 +2,7 @@
 use Rattle.std.specs.Prelude.{◌≡◌, refl, Bool, true, false, not, ◌&&◌, List, [], ◌∷◌, ◌++◌, map, ℕ, eqb, leb}
 use Rattle.std.proofs.Math.Option.{some}
 use Rattle.std.proofs.Common.{arith, leb-true, eq-eqb}
+use Rattle.std.proofs.lemmas.Bool.{and_parts}
 use Rattle.machine.specs.Machine.{Machine, Sizes}
 use Rattle.machine.specs.Step.{Body, start, sched, yield, clock, intr}
 use Rattle.machine.specs.Outcome.{Answer, Reply, answer, refused}
@@ -47,10 +48,6 @@ passes h m is_next = leb (gives m (does is_next)).fired 1 && accepted (gives m (
 unfoldable pub all_pass : List Event → Machine → List Does → Bool
 all_pass h m [] = true
 all_pass h m (d ∷ ds) = passes h m d && all_pass (h ++ event_of (does d) (gives m (does d)) ∷ []) (gives m (does d)).after ds
-
-and_parts : (a b : Bool) → (a && b) ≡ true → (a ≡ true) × (b ≡ true)
-and_parts true b e = (refl, e)
-and_parts false b e = absurd (let z : ◌≡◌ {A = ℕ} 0 1 = cc in omega arith)
 
 never : {A : Type 0} (b : Bool) → not b ≡ true → b ≡ true → A
 never true e d = absurd (let z : ◌≡◌ {A = ℕ} 0 1 = cc in omega arith)

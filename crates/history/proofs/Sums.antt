@@ -1,17 +1,17 @@
 -- The places counted by a view: sums over the Rendez and over the locks, and what a change at one of them adds.
-use Rattle.std.specs.Prelude.{if◌then◌else◌, ◌≡◌, refl, Bool, true, false, not, List, [], ◌∷◌, ℕ, zero, suc, ◌+◌, ◌<◌, eqb, length, get_or}
-use Rattle.std.proofs.Common.{sym, ap, ◌∙◌, subst, suc-ne-zero, zero-add, arith, ne_eqb}
+use Rattle.std.specs.Prelude.{if◌then◌else◌, ◌≡◌, refl, Bool, false, not, List, [], ◌∷◌, ℕ, zero, suc, ◌+◌, ◌<◌, eqb, length, get_or}
+use Rattle.std.proofs.Common.{sym, ap, ◌∙◌, suc-ne-zero, arith}
 use Rattle.std.proofs.Math.Option.{Option, none, some}
 use Rattle.std.proofs.Math.Nat.{suc_inj}
-use Rattle.machine.specs.Basics.{count, present, numbers_from, concat_map}
+use Rattle.machine.specs.Basics.{count, present, concat_map}
 use Rattle.machine.specs.Machine.{Machine, Process, Lock, free, open_machine}
 use Rattle.machine.specs.Good.{InOnePlace, running_in, places}
 use Rattle.history.specs.History.{at}
-use Rattle.history.proofs.Lists.{at_same, at_other, count-here, count-other}
+use Rattle.history.proofs.Lists.{at_same, at_other}
 use Rattle.history.proofs.View.{View, view}
 use Rattle.history.proofs.Facts.{in_places_lem}
 use Rattle.history.proofs.Single.{on_rendezs, on_waitrs, in_locks, asleep_parts}
-use Rattle.lists.specs.Lists.{count-append}
+use Rattle.lists.specs.Lists.{count-append, count-numbers}
 
 -- f 0 + f 1 + .. , n of them
 unfoldable pub sum_to : ℕ → (ℕ → ℕ) → ℕ
@@ -53,36 +53,6 @@ unfolding concat_map sum_to count
 concat_sum i [] d = refl
 concat_sum i (x ∷ xs) d = count-append i x.waiters (concat_map (λ (y : Lock). y.waiters) xs) ∙ ap (λ (k : ℕ). count i x.waiters + k) (concat_sum i xs d)
 
--- numbers from n on are not below n
-numbers-low : {A : Type 0} (k n : ℕ) (test : A → Bool) (l : List A) → k < n → count k (numbers_from n test l) ≡ 0
-unfolding numbers_from count
-numbers-low k n test [] h = refl
-numbers-low k n test (x ∷ xs) h = go (test x) (numbers-low k (suc n) test xs (omega arith))
-  where
-    go : (b : Bool) → count k (numbers_from (suc n) test xs) ≡ 0 → count k (if b then n ∷ numbers_from (suc n) test xs else numbers_from (suc n) test xs) ≡ 0
-    go true z = rw (ne_eqb k n (λ (e : k ≡ n). omega arith)) (omega arith)
-    go false z = z
-
-numbers-sum : {A : Type 0} (n : ℕ) (test : A → Bool) (l : List A) (i : ℕ) (d : A) → test d ≡ false → count (n + i) (numbers_from n test l) ≡ bit (test (get_or l i d))
-unfolding numbers_from
-numbers-sum n test [] i d f = unfold count in rw f
-numbers-sum n test (x ∷ xs) zero d f = subst (λ (k : ℕ). count k (numbers_from n test (x ∷ xs)) ≡ bit (test x)) e (go (test x))
-  where
-    e : n ≡ n + 0
-    e = omega arith
-
-    go : (b : Bool) → count n (if b then n ∷ numbers_from (suc n) test xs else numbers_from (suc n) test xs) ≡ bit b
-    go true = count-here n (numbers_from (suc n) test xs) ∙ ap suc (numbers-low n (suc n) test xs (omega arith))
-    go false = numbers-low n (suc n) test xs (omega arith)
-numbers-sum n test (x ∷ xs) (suc i) d f = go (test x) ∙ ap (λ (k : ℕ). count k (numbers_from (suc n) test xs)) e ∙ numbers-sum (suc n) test xs i d f
-  where
-    e : n + suc i ≡ suc n + i
-    e = omega arith
-
-    go : (b : Bool) → count (n + suc i) (if b then n ∷ numbers_from (suc n) test xs else numbers_from (suc n) test xs) ≡ count (n + suc i) (numbers_from (suc n) test xs)
-    go true = count-other (n + suc i) n (numbers_from (suc n) test xs) (λ (d : n + suc i ≡ n). omega arith)
-    go false = refl
-
 -- How often record i stands in the places of a view.
 unfoldable pub asleep_in : View → ℕ → ℕ
 asleep_in v i = sum_to v.rendezs (λ r. hit i (v.sleeper r)) + bit (v.on_waitr i) + sum_to v.lock_count (λ q. count i (v.waiters q))
@@ -98,8 +68,7 @@ unfolding open_machine in_view asleep_in on_rendezs on_waitrs in_locks
 same_count m i =
     let a : on_rendezs m i ≡ sum_to (length m.sleepers) (λ r. hit i (get_or m.sleepers r none)) = present-sum i m.sleepers in
     let b : on_waitrs m i ≡ bit (get_or m.processes i free).on_waitr =
-    ap (λ (k : ℕ). count k (numbers_from 0 (λ (p : Process). p.on_waitr) m.processes)) (sym (zero-add i))
-    ∙ numbers-sum 0 (λ (p : Process). p.on_waitr) m.processes i free refl in
+    count-numbers (λ (p : Process). p.on_waitr) free refl m.processes i in
     let c : in_locks m i ≡ sum_to (length m.locks) (λ q. count i (get_or m.locks q (record { held = false; waiters = [] })).waiters) =
     concat_sum i m.locks (record { held = false; waiters = [] }) in
     omega (arith, in_places_lem m i, asleep_parts m i)

@@ -1,13 +1,13 @@
 -- Whatever wakes, wakes only: `wakeup`, a lock handed over, an exit told to the parent, and `interrupt`.
-use Rattle.std.specs.Prelude.{if◌then◌else◌, ◌≡◌, refl, Bool, true, false, List, [], ◌∷◌, ◌++◌, ℕ, zero, suc, ◌+◌, ◌-◌, ◌<◌, eqb, leb, ltb, length, get_or}
-use Rattle.std.proofs.Common.{sym, ap, ◌∙◌, subst, append_assoc, append-nil, arith, ltb-true, ltb-false, length-set}
+use Rattle.std.specs.Prelude.{if◌then◌else◌, ◌≡◌, refl, Bool, true, false, List, [], ◌∷◌, ◌++◌, ℕ, zero, suc, ◌+◌, ◌-◌, ◌<◌, eqb, leb, ltb, length}
+use Rattle.std.proofs.Common.{sym, ap, ◌∙◌, subst, append_assoc, append-nil, arith, length-set}
 use Rattle.std.proofs.Math.Option.{Option, none, some}
-use Rattle.std.proofs.Math.ListN.{get_or-eq_default}
 use Rattle.machine.specs.Machine.{Machine, Process, Lock, Queued, Resume, nothing, in_sleep, in_tsleep, in_qlock, in_wait, free, process, sleeper, lock, setting, pid_of, open_machine}
 use Rattle.machine.specs.Update.{with_ticks, with_queued, with_process, with_nchild, with_on_waitr, open_update}
 use Rattle.machine.specs.Places.{Woken, ready, wake, hand_over, open_places}
 use Rattle.machine.specs.Exits.{found, has_room, wake_waitr, tell_parent}
 use Rattle.machine.specs.Timers.{Firing, twakeup, callback, period_of, readd, fire, fire_due, firings_owed, interrupt}
+use Rattle.kept.specs.SpotsLaws.{low}
 use Rattle.history.proofs.Lists.{get_or-set, get_or-set_kept}
 use Rattle.history.proofs.View.{View, view, from_rendez_v, from_lock_v, from_waitr_v, Wakes, nobody, ticking, from_rendez, from_lock, from_waitr, ◌next◌}
 
@@ -46,14 +46,6 @@ view-kept i p m a b c d =
     (λ j. get_or-set_kept (λ (x : Process). x.quantum_end) m.processes i p free j d)
     refl refl refl refl refl
 
--- what is not the default stands in the list
-pub in_list : {A : Type 0} (l : List A) (i : ℕ) (d : A) → (get_or l i d ≡ d → ⊥) → i < length l
-in_list l i d h = go (ltb i (length l)) refl
-  where
-    go : (b : Bool) → ltb i (length l) ≡ b → i < length l
-    go true e = ltb-true i (length l) e
-    go false e = absurd (h (get_or-eq_default l d {n = i} (ltb-false i (length l) e)))
-
 -- the machine after a waking, and whom it readied
 abbrev pub Woke : Machine → ℕ → Woken → Type 0
 Woke m f w = Wakes (view m) w.readied f (view w.machine)
@@ -65,7 +57,7 @@ wake-wakes r m = go (sleeper m r) refl
     go : (o : Option ℕ) → sleeper m r ≡ o → Woke m 0 (wake r m)
     go none e = rw (e, wake) nobody
     go (some i) e =
-        let there : r < length m.sleepers = in_list m.sleepers r none (λ (d : sleeper m r ≡ none). let z : ◌≡◌ {A = ℕ} 0 1 = cc in omega arith) in
+        let there : r < length m.sleepers = low m.sleepers r none (λ (d : sleeper m r ≡ none). let z : ◌≡◌ {A = ℕ} 0 1 = cc in omega arith) in
         let w : view (wake r m).machine ≡ from_rendez_v r i (view m) =
         rw (e, wake)
         (view_ext refl refl (λ k. get_or-set (λ (x : Option ℕ). x) m.sleepers r none none k there) (λ q. refl) (λ j. refl) (λ j. refl) (λ j. refl) (λ j. refl) refl (length-set m.sleepers r none) refl refl refl) in
@@ -90,7 +82,7 @@ hand_over-wakes q m = go (lock m q).waiters refl
         let d : (hand_over q m).readied ≡ [] = rw (e, hand_over) in
         rw (w, d) nobody
     go (i ∷ rest) e =
-        let there : q < length m.locks = in_list m.locks q bare (λ (d : lock m q ≡ bare). let y : (lock m q).waiters ≡ [] = ap ws d in let z : ◌≡◌ {A = ℕ} 0 1 = cc in omega arith) in
+        let there : q < length m.locks = low m.locks q bare (λ (d : lock m q ≡ bare). let y : (lock m q).waiters ≡ [] = ap ws d in let z : ◌≡◌ {A = ℕ} 0 1 = cc in omega arith) in
         let w : view (hand_over q m).machine ≡ from_lock_v q i rest (view m) =
         rw (e, hand_over)
         (view_ext refl refl (λ r. refl) (λ k. get_or-set ws m.locks q (record { held = true; waiters = rest }) bare k there) (λ j. refl) (λ j. refl) (λ j. refl) (λ j. refl) refl refl (length-set m.locks q (record { held = true; waiters = rest })) refl refl) in
@@ -100,7 +92,7 @@ hand_over-wakes q m = go (lock m q).waiters refl
 waitr-view : (j : ℕ) (m : Machine) → (process m j).on_waitr ≡ true → view (ready j (with_process j (with_on_waitr false (process m j)) m)) ≡ from_waitr_v j (view m)
 unfolding open_machine open_update open_places
 waitr-view j m e =
-    let there : j < length m.processes = in_list m.processes j free (λ (d : process m j ≡ free). let y : (process m j).on_waitr ≡ false = ap (λ (x : Process). x.on_waitr) d in let z : ◌≡◌ {A = ℕ} 0 1 = cc in omega arith) in
+    let there : j < length m.processes = low m.processes j free (λ (d : process m j ≡ free). let y : (process m j).on_waitr ≡ false = ap (λ (x : Process). x.on_waitr) d in let z : ◌≡◌ {A = ℕ} 0 1 = cc in omega arith) in
     let p : Process = with_on_waitr false (process m j) in
     view_ext refl refl (λ r. refl) (λ q. refl)
     (λ k. get_or-set (λ (x : Process). x.on_waitr) m.processes j p free k there)

@@ -3,7 +3,7 @@ use Rattle.std.specs.Prelude.{if◌then◌else◌, ◌≡◌, List, [], ◌∷�
 use Rattle.std.proofs.Math.Path.{refl}
 use Rattle.std.proofs.Common.{sym, ap, subst, ◌∙◌, arith, eqb-true, ltb-true, ltb-false}
 use Rattle.std.proofs.Math.Bool.{true, false}
-use Rattle.std.proofs.lemmas.Bool.{false≢true, eqb-false}
+use Rattle.std.proofs.lemmas.Bool.{false≢true, eqb-false, or_parts}
 use Rattle.std.proofs.Math.Dec.{eqb}
 use Rattle.machine.specs.Basics.{elem}
 use Rattle.layout.specs.Memory.{Memory}
@@ -38,10 +38,6 @@ unfoldable pub leftover : ℕ → ℕ → ℕ
 leftover f v = if cleared f then 0 else v
 
 -- Neither of two holds.
-neither : (a b : Bool) → (a || b) ≡ false → (a ≡ false) × (b ≡ false)
-neither true b e = absurd (false≢true (sym e))
-neither false b e = (refl, e)
-
 -- What is used neither in m nor in m' stays.
 pub record Spared (z : Sizes) (m m' : Memory) : Type 0 where
   pub spared : (f i : ℕ) → used z m f i ≡ 0 → used z m' f i ≡ 0 → m' f i ≡ m f i
@@ -154,7 +150,7 @@ module _ {m m' : Memory} {P : ℕ → ℕ → Type 0} (h : Handled m m' P) where
       go false a false d true e = at f t fields.is_queued e (h.flags t u v)
       go false a false d false e =
           let q : (39 ≤ f) × (f ≤ 43) = in_range_lem fields.deadline fields.is_queued f r in
-          let k : (eqb f 40 ≡ false) × (eqb f 41 ≡ false) = neither (eqb f 40) (eqb f 41) n in
+          let k : (eqb f 40 ≡ false) × (eqb f 41 ≡ false) = or_parts (eqb f 40) (eqb f 41) n in
           absurd (omega (arith, q.0, q.1, eqb-false f 39 a, eqb-false f 40 k.0, eqb-false f 41 k.1, eqb-false f 42 d, eqb-false f 43 e))
 
   of_cell : (f c : ℕ) → from_to fields.exit_pid fields.message_length f ≡ true → 0 < m fields.owner c → m' fields.owner c ≡ 0 → P f c

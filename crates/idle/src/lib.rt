@@ -9,7 +9,8 @@ ghost use Rattle.idle.specs.Idle.{RecordIdle, CellIdle, TimerIdle};
 use rules::Checked;
 use state::{Index, field};
 
-// Has record `i`, where it is free, no neighbours in age and no exits?
+// Has record `i`, where it is free, no neighbours in age and no exits? The pid 0 is for a free record: the layout gives the number, and it is
+// compared as a number.
 fn record_ok(v: &Checked, i: Index) -> bool
     requires { i < v.now.sizes.processes }
     ensures { IsTrue result ↔ RecordIdle (mem_in v.now.sizes v.now.bytes.now) i }
@@ -28,7 +29,7 @@ fn records_ok(v: &Checked) -> bool
     (0..v.sizes.processes).all(|i| record_ok(v, i))
 }
 
-// Has cell `c`, where it is free, no link?
+// Has cell `c`, where it is free, no link? One expression, as in `timer_ok`, of other fields of other types.
 fn cell_ok(v: &Checked, c: Index) -> bool
     requires { c < v.now.sizes.cells }
     ensures { IsTrue result ↔ CellIdle (mem_in v.now.sizes v.now.bytes.now) c }
@@ -43,7 +44,7 @@ fn cells_ok(v: &Checked) -> bool
     (0..v.sizes.cells).all(|c| cell_ok(v, c))
 }
 
-// Has timer `t`, where it is off the queue, no link?
+// Has timer `t`, where it is off the queue, no link? Whether it is queued is 1 or 0: the layout gives the number, and it is compared as a number.
 fn timer_ok(v: &Checked, t: Index) -> bool
     requires { t < v.now.sizes.timers + v.now.sizes.processes }
     ensures { IsTrue result ↔ TimerIdle (mem_in v.now.sizes v.now.bytes.now) t }

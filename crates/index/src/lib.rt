@@ -27,13 +27,7 @@ fn words_for(n: Index) -> Index
 fn span(end: Index, base: Index, n: Index) -> Index
     ensures { Span end base n result }
 {
-    if end <= base {
-        return 0;
-    }
-    if end - base <= n {
-        return end - base;
-    }
-    n
+    end.saturating_sub(base).min(n)
 }
 
 // The word whose bit `k`, for each `k` below `n`, is set where `bit(k)` is true. The highest comes first: a shift by `k` took longer.
@@ -52,7 +46,8 @@ fn word_of<F: Fn(Index) -> bool>(n: Index, bit: F) -> u64
     word
 }
 
-// Is the record, or cell, `k` from the last in use? It is where its field is not 0.
+// Is the record, or cell, `k` from the last in use? It is where its field is not 0. The field is an argument, so that there are `n` records of it
+// is a clause, here and below.
 fn is_used<T: Number + Drop>(v: &View, of: Field<T>, n: Index, k: Index) -> bool
     requires reach { Asks v.now.sizes v.now.bytes.now (slot_of of T.width) n }
     requires below { k < n }

@@ -1,5 +1,5 @@
 -- A machine stays fine when one part of it is replaced and the groups that read the part are kept.
-use Rattle.std.specs.Prelude.{◌≡◌, refl, Bool, true, false, ◌⊎◌, ℕ, suc, ◌+◌, ◌-◌, ◌^◌, ◌≤◌, ◌<◌, set, List, map}
+use Rattle.std.specs.Prelude.{◌≡◌, refl, Bool, true, ◌⊎◌, ℕ, suc, ◌+◌, ◌-◌, ◌^◌, ◌≤◌, ◌<◌, set, List, map}
 use Rattle.std.proofs.Common.{sym, ◌∙◌, inl, arith}
 use Rattle.std.proofs.Math.Path.{ap, subst}
 use Rattle.std.proofs.Math.Option.{Option}
@@ -13,11 +13,6 @@ use Rattle.kept.specs.Fine.{at, cells_in, waiters_of, timers_of, Records, Clockw
 use Rattle.kept.specs.SpotsLaws.{lives-pid, pid-low, pid-lives, spots-process}
 use Rattle.kept.specs.KinLaws.{records-set, kin-owed, kin-next, kin_change}
 use Rattle.kept.specs.ClockLaws.{own-process}
-
--- A bit is at most 1.
-pub bit-small : (b : Bool) → bit b ≤ 1
-bit-small true = omega arith
-bit-small false = omega arith
 
 module _ {o : Option ℕ} {w : List ℕ} (m : Machine) (f : Fine o w m) where
   -- A condition is set.

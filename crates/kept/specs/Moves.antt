@@ -11,10 +11,10 @@ use Rattle.machine.specs.Machine.{Resume, nothing, in_qlock, in_wait, Lock, Mach
 use Rattle.machine.specs.Update.{with_up, with_run, with_process, with_sleeper, with_lock, with_resume, with_on_waitr}
 use Rattle.machine.specs.Places.{ready}
 use Rattle.machine.specs.Good.{ProcessInRange, ResumeInRange, SleepsOn, IsTsleep, running_in}
-use Rattle.lists.specs.Lists.{bit, each-get, count_self, count-other, count-only, count-append}
+use Rattle.lists.specs.Lists.{bit, bit-small, each-get, count_self, count-other, count-only, count-append}
 use Rattle.kept.specs.Fine.{at, unheld, lock_at, waiters_of, timers_of, Fine, option_in}
 use Rattle.kept.specs.SpotsLaws.{low, pid-low, spots-run, spots-sleeper, spots-lock}
-use Rattle.kept.specs.FineLaws.{bit-small, fine_up, fine-run, fine-sleeper, fine-lock, fine-call, counted-lives}
+use Rattle.kept.specs.FineLaws.{fine_up, fine-run, fine-sleeper, fine-lock, fine-call, counted-lives}
 
 -- Nothing is counted in an empty list, and in limbo one process is.
 pub count_none : (k : ℕ) → count k (running_in none) ≡ 0

@@ -14,7 +14,7 @@ use Rattle.machine.specs.Exits.{cells_used, free_cell, without, message_due}
 use Rattle.machine.specs.Table.{running, open_table}
 use Rattle.machine.specs.StepOf.{step_of}
 use Rattle.machine.specs.Good.{Good, Each, ProcessInRange}
-use Rattle.lists.specs.Lists.{bit, highest-none}
+use Rattle.lists.specs.Lists.{bit, highest-none, elem-some}
 use Rattle.kept.specs.Fine.{at, cells_in, Fine, fine}
 use Rattle.kept.specs.SpotsLaws.{pid-low}
 use Rattle.kept.specs.Moves.{up-lives}
@@ -72,21 +72,11 @@ total-length : (c : ℕ) (xs : List ℕ) → total c xs ≤ length xs
 total-length c [] = omega (arith, total-empty c)
 total-length c (x ∷ xs) = omega (arith, total_cons c x xs, total-length c xs)
 
--- What is in a list is counted there.
-stands : (k : ℕ) (xs : List ℕ) → elem k xs ≡ true → 1 ≤ count k xs
-unfolding elem count
-stands k [] e = let x : ◌≡◌ {A = ℕ} 0 1 = cc in absurd (omega arith)
-stands k (x ∷ xs) e = go (eqb k x) refl (λ h. stands k xs h)
-  where
-    go : (b : Bool) → eqb k x ≡ b → (elem k xs ≡ true → 1 ≤ count k xs) → 1 ≤ bit (eqb k x) + count k xs
-    go true h rec = omega (arith, ap bit h)
-    go false h rec = omega (arith, rec (rw (h, elem) at e))
-
 -- The pigeonhole: a list in which every number below c stands has c elements or more.
 all-counted : (c : ℕ) (xs : List ℕ) → ((k : ℕ) → k < c → elem k xs ≡ true) → c ≤ total c xs
 unfolding total
 all-counted zero xs h = omega arith
-all-counted (suc c) xs h = omega (arith, stands c xs (h c (omega arith)), all-counted c xs (λ k l. h k (omega arith)))
+all-counted (suc c) xs h = omega (arith, elem-some c xs (h c (omega arith)), all-counted c xs (λ k l. h k (omega arith)))
 
 -- So such a list has c elements or more.
 pub pigeonhole : (c : ℕ) (xs : List ℕ) → ((k : ℕ) → k < c → elem k xs ≡ true) → c ≤ length xs

@@ -25,9 +25,6 @@ or_true : (a b : Bool) → b ≡ true → a || b ≡ true
 or_true true b e = refl
 or_true false b e = e
 
-none-some : (n : ℕ) → none ≡ some n → ⊥
-none-some n e = none-ne-some n e
-
 -- A cause that holds stands in the table.
 holds-listed : (n : ℕ) (rs : List Row) (m : Machine) (s : Step) → holds n rs m s ≡ true → elem n (numbers rs) ≡ true
 unfolding holds elem
@@ -40,7 +37,7 @@ holds-listed n (r ∷ rs) m s e = go (eqb r.number n) refl (λ d. holds-listed n
 
 first-listed : (ns : List ℕ) (m : Machine) (s : Step) (n : ℕ) → first_of ns m s ≡ some n → elem n (numbers table) ≡ true
 unfolding first_of
-first-listed [] m s n e = absurd (none-some n e)
+first-listed [] m s n e = absurd (none-ne-some n e)
 first-listed (k ∷ ns) m s n e = go (holds k table m s) refl (λ d. first-listed ns m s n d)
   where
     go : (b : Bool) → holds k table m s ≡ b → (first_of ns m s ≡ some n → elem n (numbers table) ≡ true) → elem n (numbers table) ≡ true

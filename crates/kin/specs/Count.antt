@@ -3,6 +3,7 @@ use Rattle.std.specs.Prelude.{if◌then◌else◌, ◌≡◌, refl, Bool, true, 
 use Rattle.std.proofs.Common.{sym, ap, subst, ◌∙◌, arith, eq-eqb, ne_eqb, eqb-true, length-set, get_or-set_same, get_or-set_other}
 use Rattle.std.proofs.lemmas.Bool.{eqb-false}
 use Rattle.layout.specs.Memory.{Memory}
+use Rattle.rules.specs.Counting.{count_few}
 use Rattle.rules.specs.Facts.{count_below}
 use Rattle.kin.specs.Link.{kin_link}
 
@@ -24,18 +25,9 @@ pub record Counting (m : Memory) (n i : ℕ) (cs : List ℕ) : Type 0 where
   pub size : length cs ≡ 4096
   pub each : (j : ℕ) → j < 4096 → get_or cs j 0 ≡ count_below i (names m j)
 
-count_small : (n : ℕ) (f : ℕ → Bool) → count_below n f ≤ n
-unfolding count_below
-count_small zero f = omega arith
-count_small (suc n) f = go (f n) (count_small n f)
-  where
-    go : (t : Bool) → count_below n f ≤ n → count_below n f + (if t then 1 else 0) ≤ suc n
-    go true h = omega arith
-    go false h = omega arith
-
 -- Each number is small.
 pub count-few : {m : Memory} {n i : ℕ} {cs : List ℕ} → Counting m n i cs → (j : ℕ) → j < 4096 → get_or cs j 0 ≤ 4096
-count-few {m} {n} {i} {cs} c j b = omega (arith, c.each j b, count_small i (names m j), c.index, c.small)
+count-few {m} {n} {i} {cs} c j b = omega (arith, c.each j b, count_few i (names m j), c.index, c.small)
 
 one_more : (m : Memory) (i l : ℕ) (cs : List ℕ) → l ≡ kin_link m i → length cs ≡ 4096 → (j : ℕ) → j < 4096 → get_or (bumped cs l) j 0 ≡ get_or cs j 0 + (if names m j i then 1 else 0)
 one_more m i zero cs e s j b = rw (← e, ne_eqb 0 (suc j) (λ d. omega arith)) (omega arith)
@@ -68,9 +60,3 @@ count-more {m} {n} {i} {l} {cs} {cs'} c h w e =
 
 pub count-end : {m : Memory} {n i : ℕ} {cs : List ℕ} → Counting m n i cs → n ≤ i → Counted m n cs
 count-end {m} {n} {i} {cs} c h = let e : i ≡ n = omega (arith, c.index) in record { size = c.size; each = λ j b. rw (← e) (c.each j b) }
-
--- Two tests that agree below n count the same.
-pub count_same : (n : ℕ) (f g : ℕ → Bool) → ((k : ℕ) → k < n → f k ≡ g k) → count_below n f ≡ count_below n g
-unfolding count_below
-count_same zero f g h = refl
-count_same (suc n) f g h = rw (h n (omega arith), count_same n f g (λ k l. h k (omega arith)))

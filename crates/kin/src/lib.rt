@@ -14,7 +14,7 @@ ghost use Rattle.kin.specs.Kin.{CountAsks, Children, KinFacts};
 use rules::Checked;
 use state::{Count, Index, Link, field};
 
-// Puts the pids of the living into the array, the oldest first: how many there are.
+// Puts the pids of the living into the array, the oldest first: how many there are. An array of the caller's, since no library has a heap.
 fn fill_pids(v: &Checked, pids: &mut [u64]) -> usize
     requires aged { Aged (sizes_in v.now.sizes) (mem_in v.now.sizes v.now.bytes.now) }
     requires size { length pids.old ≡ 4096 }
@@ -32,7 +32,8 @@ fn fill_pids(v: &Checked, pids: &mut [u64]) -> usize
     n
 }
 
-// The record of the living parent of record `i`.
+// The record of the living parent of record `i`. Beside `find_parent` of `ages`, which is asked only of one that lives. The pid 0 is for a free
+// record, and the parent 0 for none, here and below: the layout gives the numbers, and they are compared as numbers.
 fn parent_of(v: &Checked, i: Index) -> Link
     requires { i < v.now.sizes.processes }
     ensures value { link result ≡ kin_link (mem_in v.now.sizes v.now.bytes.now) i }
@@ -46,11 +47,8 @@ fn parent_of(v: &Checked, i: Index) -> Link
         return None;
     }
     let at = v.get(field::PARENT_AT, i)?;
-    if v.get(field::PID, at) == parent {
-        Some(at)
-    } else {
-        None
-    }
+    let pid = v.get(field::PID, at);
+    if pid == parent { Some(at) } else { None }
 }
 
 // Does record `i` name its parent rightly, if it is used? The pids are those of the living.
@@ -60,17 +58,9 @@ fn parent_ok(v: &Checked, pids: &[u64], i: Index) -> bool
     requires index { i < v.now.sizes.processes }
     ensures { IsTrue result ↔ ParentOk (sizes_in v.now.sizes) (mem_in v.now.sizes v.now.bytes.now) i }
 {
-    if v.get(field::PID, i) == 0 {
-        return true;
-    }
     let parent = v.get(field::PARENT, i);
-    if parent == 0 {
-        return true;
-    }
-    match parent_of(v, i) {
-        Some(_) => true,
-        None => pids.binary_search(&parent).is_err(),
-    }
+    v.get(field::PID, i) == 0
+        || (parent == 0 || (parent_of(v, i).is_some() || pids.binary_search(&parent).is_err()))
 }
 
 // Does each used record name its parent rightly?
@@ -85,7 +75,7 @@ fn parents_ok(v: &Checked) -> bool
     (0..v.sizes.processes).all(|i| parent_ok(&v, pids, i))
 }
 
-// Counts the children of each record.
+// Counts the children of each record, in an array of the caller's, since no library has a heap.
 fn count_children(v: &Checked, children: &mut [Count])
     requires { CountAsks children.old }
     ensures { Counted (mem_in v.now.sizes v.now.bytes.now) v.now.sizes.processes children.new }
@@ -93,7 +83,7 @@ fn count_children(v: &Checked, children: &mut [Count])
     let v = *v;
     for i in 0..v.sizes.processes {
         if let Some(j) = parent_of(&v, i) {
-            children[j as usize] += 1;
+            children[usize::from(j)] += 1;
         }
     }
 }
@@ -104,7 +94,7 @@ fn child_count_ok(v: &Checked, children: &[Count], j: Index) -> bool
     requires index { j < v.now.sizes.processes }
     ensures { IsTrue result ↔ Children (sizes_in v.now.sizes) (mem_in v.now.sizes v.now.bytes.now) j }
 {
-    v.get(field::PID, j) == 0 || v.get(field::NCHILD, j) == children[j as usize]
+    v.get(field::PID, j) == 0 || v.get(field::NCHILD, j) == children[usize::from(j)]
 }
 
 // Has each used record as many children as name it?
@@ -117,10 +107,10 @@ fn child_counts_ok(v: &Checked) -> bool
     (0..v.sizes.processes).all(|j| child_count_ok(&v, &children, j))
 }
 
-// Do the records agree on who is whose parent, and on how many children each has?
+// Do the records agree on who is whose parent, and on how many children each has? Where nobody lives they do, and no array is filled.
 pub fn kin_ok(v: &Checked) -> bool
     requires { Aged (sizes_in v.now.sizes) (mem_in v.now.sizes v.now.bytes.now) }
     ensures { IsTrue result ↔ KinFacts (sizes_in v.now.sizes) (mem_in v.now.sizes v.now.bytes.now) }
 {
-    parents_ok(v) && child_counts_ok(v)
+    v.get(field::OLDEST, 0).is_none() || (parents_ok(v) && child_counts_ok(v))
 }

@@ -1,5 +1,5 @@
 -- What a line of the listing asks and ensures.
-use Rattle.std.specs.Prelude.{◌≡◌, Bool, true, false, List, ◌++◌, ℕ, ◌+◌, ◌*◌, ◌≤◌, length, drop}
+use Rattle.std.specs.Prelude.{◌≡◌, List, ◌++◌, ℕ, ◌+◌, ◌*◌, ◌≤◌, length, drop}
 use Rattle.std.proofs.Math.Option.{Option}
 use Rattle.machine.specs.Step.{Step}
 use Rattle.machine.specs.Outcome as machine
@@ -10,8 +10,6 @@ use Rattle.holds.specs.Did.{machine_in}
 use Rattle.holds.specs.Touched.{Spares}
 use Rattle.outcome.specs.Means.{told}
 use Rattle.outcome.specs.Stepped.{Well}
-use Rattle.decode.specs.declared.Call.{Call}
-use Rattle.decode.specs.declared.Call.TheVariants.{Start, Rfork, Name, Sched, Yield, Sleep, Tsleep, Wakeup, Qlock, Canqlock, Qunlock, Cond, Clock, Tadd, Tdel, Intr, Due, Exit, Wait}
 use Rattle.print.specs.Put.{Put}
 use Rattle.parse.specs.Parsed.{Parsed}
 
@@ -52,25 +50,3 @@ pub record LineTaken (z : Sizes) (s s' : List ℕ) (n : ℕ) (x : Option Step) (
   pub took : LineTook z s s' n x m m' out at out' r
   pub many : ℕ
   pub parsed : Parsed x b b' many
-
--- Whether a call is an `exit`.
-abbrev pub is_exit : Call → Bool
-is_exit (Start m) = false
-is_exit (Rfork f m) = false
-is_exit (Name n) = false
-is_exit Sched = false
-is_exit Yield = false
-is_exit (Sleep r c) = false
-is_exit (Tsleep f) = false
-is_exit (Wakeup r) = false
-is_exit (Qlock q) = false
-is_exit (Canqlock q) = false
-is_exit (Qunlock q) = false
-is_exit (Cond c v) = false
-is_exit (Clock now) = false
-is_exit (Tadd f) = false
-is_exit (Tdel t) = false
-is_exit (Intr now) = false
-is_exit Due = false
-is_exit (Exit n) = true
-is_exit Wait = false

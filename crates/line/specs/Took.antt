@@ -1,14 +1,14 @@
 -- What the code shows at each call of the printer and each return.
+use denote.Ref.{Bor}
 use Rattle.std.specs.Prelude.{◌≡◌, refl, Bool, List, ℕ, ◌+◌, ◌-◌, ◌*◌, ◌≤◌, take, drop, Result, Ok, Err, Some, None}
 use Rattle.std.specs.Prelude as code
 use Rattle.std.proofs.Math.Path.{sym, ap}
-use Rattle.std.proofs.Common.{subst, ◌∙◌, true≢false, arith, length-append, length-drop, length-take-le}
-use Rattle.std.proofs.Math.Bool.{true, false}
-use Rattle.std.proofs.lemmas.Bool.{false≢true}
+use Rattle.std.proofs.Common.{subst, ◌∙◌, arith, length-append}
+use Rattle.std.proofs.Math.Bool.{false}
 use Rattle.std.proofs.Math.Option.{Option, none, some}
 use Rattle.std.proofs.Math.ListN.{length}
 use Rattle.machine.specs.Bytes.{decode}
-use Rattle.machine.specs.Step.{Step, Body, exit}
+use Rattle.machine.specs.Step.{Step, exit}
 use Rattle.machine.specs.Machine.{Machine}
 use Rattle.machine.specs.Outcome as machine
 use Rattle.machine.specs.Outcome.{Outcome}
@@ -21,8 +21,8 @@ use Rattle.holds.specs.Did.{machine_in}
 use Rattle.decode.specs.declared.Call.{Call}
 use Rattle.decode.specs.declared.Call.TheVariants.{Start, Rfork, Name, Sched, Yield, Sleep, Tsleep, Wakeup, Qlock, Canqlock, Qunlock, Cond, Clock, Tadd, Tdel, Intr, Due, Exit, Wait}
 use Rattle.decode.specs.declared.Decoded.{Decoded}
-use Rattle.decode.specs.Means.{body_of, step_of, Ranged}
-use Rattle.decode.specs.Decodes.{Decodes}
+use Rattle.decode.specs.Means.{body_of}
+use Rattle.decode.specs.Decodes.{Decodes, is-step, is_none}
 use Rattle.outcome.specs.declared.Reply.{Reply}
 use Rattle.outcome.specs.declared.Refusal.{Refusal}
 use Rattle.outcome.specs.declared.Refusal.TheVariants.{NoSuchStep}
@@ -35,106 +35,52 @@ use Rattle.proc.specs.Taken.{Taken, status_in, given}
 use Rattle.parse.specs.Parsed.{Parsed}
 use Rattle.print.specs.Line.{LineAsks as PrintAsks, Printed}
 use Rattle.print.specs.Put.{put_as}
-use Rattle.line.specs.Line.{StepAsks, is_exit, line_most, with_message, LineTook, LineTaken}
+use Rattle.line.specs.Line.{StepAsks, line_most, with_message, LineTook, LineTaken}
+use Rattle.line.specs.Status.{Short, status_short}
 use Rattle.line.specs.Text.{exits, tells_exit, given-tells, given-silent, other-buffer, other_status, silent-told}
-
--- The status in the bytes of an `exit`.
-abbrev pub status_bytes : List ℕ → List ℕ
-status_bytes b = take (length b - 6) (drop 6 b)
-
--- A call that is an `exit`, by its case; and one that is not.
-exit_case : (c : Call) → is_exit c ≡ true → (n : ℕ) × (c ≡ Exit n)
-exit_case (Start m) e = absurd (false≢true e)
-exit_case (Rfork f m) e = absurd (false≢true e)
-exit_case (Name n) e = absurd (false≢true e)
-exit_case Sched e = absurd (false≢true e)
-exit_case Yield e = absurd (false≢true e)
-exit_case (Sleep r c) e = absurd (false≢true e)
-exit_case (Tsleep f) e = absurd (false≢true e)
-exit_case (Wakeup r) e = absurd (false≢true e)
-exit_case (Qlock q) e = absurd (false≢true e)
-exit_case (Canqlock q) e = absurd (false≢true e)
-exit_case (Qunlock q) e = absurd (false≢true e)
-exit_case (Cond c v) e = absurd (false≢true e)
-exit_case (Clock now) e = absurd (false≢true e)
-exit_case (Tadd f) e = absurd (false≢true e)
-exit_case (Tdel t) e = absurd (false≢true e)
-exit_case (Intr now) e = absurd (false≢true e)
-exit_case Due e = absurd (false≢true e)
-exit_case (Exit n) e = (n, refl)
-exit_case Wait e = absurd (false≢true e)
 
 -- What is no step tells of no exit.
 none-tells : (m : Machine) (k : ℕ) → tells_exit (outcome_of m none k).reply ≡ false
 unfolding outcome_of refusing
 none-tells m k = refl
 
-other_case : (c : Call) (b : List ℕ) (j : Bool) (m : Machine) (k : ℕ) → is_exit c ≡ false → tells_exit (outcome_of m (some (step j (body_of c b))) k).reply ≡ false
+-- Nor does a call that is no `exit`.
+other_case
+    : (c : Call) (j : Bool) (m : Machine) (k : ℕ) → ((st : Bor (List ℕ)) → c ≡ Exit st → ⊥) → tells_exit (outcome_of m (some (step j (body_of c))) k).reply ≡ false
 unfolding body_of exits
-other_case (Start x) b j m k e = given-tells m _ k refl
-other_case (Rfork f x) b j m k e = given-tells m _ k refl
-other_case (Name n) b j m k e = given-tells m _ k refl
-other_case Sched b j m k e = given-tells m _ k refl
-other_case Yield b j m k e = given-tells m _ k refl
-other_case (Sleep r c) b j m k e = given-tells m _ k refl
-other_case (Tsleep f) b j m k e = given-tells m _ k refl
-other_case (Wakeup r) b j m k e = given-tells m _ k refl
-other_case (Qlock q) b j m k e = given-tells m _ k refl
-other_case (Canqlock q) b j m k e = given-tells m _ k refl
-other_case (Qunlock q) b j m k e = given-tells m _ k refl
-other_case (Cond c v) b j m k e = given-tells m _ k refl
-other_case (Clock now) b j m k e = given-tells m _ k refl
-other_case (Tadd f) b j m k e = given-tells m _ k refl
-other_case (Tdel t) b j m k e = given-tells m _ k refl
-other_case (Intr now) b j m k e = given-tells m _ k refl
-other_case Due b j m k e = given-tells m _ k refl
-other_case (Exit n) b j m k e = absurd (true≢false e)
-other_case Wait b j m k e = given-tells m _ k refl
+other_case (Start x) j m k ne = given-tells m _ k refl
+other_case (Rfork f x) j m k ne = given-tells m _ k refl
+other_case (Name b) j m k ne = given-tells m _ k refl
+other_case Sched j m k ne = given-tells m _ k refl
+other_case Yield j m k ne = given-tells m _ k refl
+other_case (Sleep r c) j m k ne = given-tells m _ k refl
+other_case (Tsleep f) j m k ne = given-tells m _ k refl
+other_case (Wakeup r) j m k ne = given-tells m _ k refl
+other_case (Qlock q) j m k ne = given-tells m _ k refl
+other_case (Canqlock q) j m k ne = given-tells m _ k refl
+other_case (Qunlock q) j m k ne = given-tells m _ k refl
+other_case (Cond c v) j m k ne = given-tells m _ k refl
+other_case (Clock now) j m k ne = given-tells m _ k refl
+other_case (Tadd f) j m k ne = given-tells m _ k refl
+other_case (Tdel t) j m k ne = given-tells m _ k refl
+other_case (Intr now) j m k ne = given-tells m _ k refl
+other_case Due j m k ne = given-tells m _ k refl
+other_case (Exit st) j m k ne = absurd (ne st refl)
+other_case Wait j m k ne = given-tells m _ k refl
 
--- The bytes of an `exit` are at least six, and its status is behind them.
-exit_length : (c : Call) (b : List ℕ) → Ranged c b → is_exit c ≡ true → 6 ≤ length b
-unfolding Ranged
-exit_length c b h e =
-    let x : (n : ℕ) × (c ≡ Exit n) = exit_case c e in
-    let y : 6 + x.0 ≡ length b = subst (λ (d : Call). Ranged d b) x.1 h in
-    omega (arith, y)
+-- The step of the bytes of an `exit`, and how long its status is.
+module _ {b : List ℕ} {o : code.Option Decoded} {d : Decoded} {st : Bor (List ℕ)} (h : Decodes b o) (j : o ≡ Some d) (i : d.call ≡ Exit st) where
+  exit-decoded : decode b ≡ some (step d.marked (exit st.now))
+  unfolding body_of
+  exit-decoded = is-step h j ∙ ap (λ (c : Call). some (step d.marked (body_of c))) i
 
-exit-body : (c : Call) (b : List ℕ) → Ranged c b → is_exit c ≡ true → body_of c b ≡ exit (status_bytes b)
-unfolding Ranged body_of
-exit-body c b h e =
-    let x : (n : ℕ) × (c ≡ Exit n) = exit_case c e in
-    let y : 6 + x.0 ≡ length b = subst (λ (d : Call). Ranged d b) x.1 h in
-    let z : x.0 ≡ length b - 6 = omega (arith, y) in
-    ap (λ (d : Call). body_of d b) x.1 ∙ ap (λ (n : ℕ). exit (take n (drop 6 b))) z
+  exit_length : length st.now ≤ length b - 6
+  unfolding status_of
+  exit_length = subst (Short b) exit-decoded (status_short b)
 
--- The step of the bytes that were decoded.
-ranged : {b : List ℕ} {o : code.Option Decoded} {d : Decoded} → Decodes b o → o ≡ Some d → Ranged d.call b
-ranged {b} h e = (subst (Decodes b) e h).ranged
-
-decoded : {b : List ℕ} {o : code.Option Decoded} {d : Decoded} → Decodes b o → o ≡ Some d → some (step d.marked (body_of d.call b)) ≡ decode b
-unfolding step_of
-decoded {b} h e = (subst (Decodes b) e h).step
-
-undecoded : {b : List ℕ} {o : code.Option Decoded} → Decodes b o → o ≡ None → none ≡ decode b
-unfolding step_of
-undecoded {b} h e = (subst (Decodes b) e h).step
-
-exit-decoded : {b : List ℕ} {o : code.Option Decoded} {d : Decoded} → Decodes b o → o ≡ Some d → is_exit d.call ≡ true
-    → decode b ≡ some (step d.marked (exit (status_bytes b)))
-exit-decoded {b} {d = d} h e i = sym (decoded h e) ∙ ap (λ (y : Body). some (step d.marked y)) (exit-body d.call b (ranged h e) i)
-
-exit-silent
-    : (z : Sizes) (s m : List ℕ) {b : List ℕ} {o : code.Option Decoded} {d : Decoded}
-    → Decodes b o
-    → o ≡ Some d
-    → is_exit d.call ≡ true
-    → is_child (given z s (decode b) m).reply ≡ false
-unfolding tells
-exit-silent z s m {b} h e i =
-    ap (λ (x : Option Step). is_child (given z s x m).reply) (exit-decoded h e i) ∙ given-silent (machine_in z s) _ (length m) refl
-
-status_length : (b : List ℕ) → 6 ≤ length b → length (status_bytes b) ≡ length b - 6
-status_length b k = length-take-le (length b - 6) (drop 6 b) (omega (arith, length-drop 6 b))
+  exit-silent : (z : Sizes) (s m : List ℕ) → is_child (given z s (decode b) m).reply ≡ false
+  unfolding tells
+  exit-silent z s m = ap (λ (x : Option Step). is_child (given z s x m).reply) exit-decoded ∙ given-silent (machine_in z s) _ (length m) refl
 
 -- What a step took, with its line: the reply printed is the definition's.
 line-took
@@ -160,34 +106,20 @@ line-took {z} {s} {s'} {b} {m} {m'} {out} {at} {n} {r} {text} {out'} {f} a t e l
     }
 
 -- An `exit`: its status is printed.
-pub exit-long
-    : {z : Sizes} {s b m out : List ℕ} {at : ℕ} {o : code.Option Decoded} {d : Decoded} {e : Bool}
-    → StepAsks z s b m out at
-    → Decodes b o
-    → o ≡ Some d
-    → e ≡ is_exit d.call
-    → e ≡ true
-    → 6 ≤ length b
-exit-long {b = b} {d = d} a h j q i = exit_length d.call b (ranged h j) (sym q ∙ i)
-
-module _ {z : Sizes} {s s' b m m' out : List ℕ} {at : ℕ} {o : code.Option Decoded} {d : Decoded} {r : Result Reply Refusal} {e : Bool} where
+module _ {z : Sizes} {s s' b m m' out : List ℕ} {at : ℕ} {o : code.Option Decoded} {d : Decoded} {st : Bor (List ℕ)} {r : Result Reply Refusal} where
   pub exit-asks
       : StepAsks z s b m out at
       → Decodes b o
       → o ≡ Some d
-      → CallTook z s s' d.marked d.call b m m' r
-      → e ≡ is_exit d.call
-      → e ≡ true
-      → PrintAsks z s' r (status_bytes b) out at
-  exit-asks a h j t q i =
+      → d.call ≡ Exit st
+      → CallTook z s s' d.marked d.call m m' r
+      → PrintAsks z s' r st.now out at
+  exit-asks a h j i t =
       let y : Taken z s s' (decode b) m m' r = take-took h j t in
-      let l : length_of r ≡ 0 =
-      y.long ∙ ap (λ (x : List ℕ). length x) (silent-told _ (exit-silent z s m h j (sym q ∙ i)))
-      in
-      let k : 6 ≤ length b = exit_length d.call b (ranged h j) (sym q ∙ i) in
+      let l : length_of r ≡ 0 = y.long ∙ ap (λ (x : List ℕ). length x) (silent-told _ (exit-silent h j i z s m)) in
       record {
         holds = y.holds;
-        room = omega (arith, status_length b k, a.room, a.short, k);
+        room = omega (arith, exit_length h j i, a.room, a.short);
         fits = omega (arith, l);
       }
 
@@ -196,20 +128,17 @@ module _ {z : Sizes} {s s' b m m' out : List ℕ} {at : ℕ} {o : code.Option De
       → StepAsks z s b m out at
       → Decodes b o
       → o ≡ Some d
-      → CallTook z s s' d.marked d.call b m m' r
-      → e ≡ is_exit d.call
-      → e ≡ true
-      → Printed z s' n r (status_bytes b) out at out' f
+      → d.call ≡ Exit st
+      → CallTook z s s' d.marked d.call m m' r
+      → Printed z s' n r st.now out at out' f
       → LineTook z s s' n (decode b) m m' out at out' f
   unfolding status_in status_of
-  exit-took a h j t q i p =
-      let v : is_exit d.call ≡ true = sym q ∙ i in
+  exit-took a h j i t p =
       let y : Taken z s s' (decode b) m m' r = take-took h j t in
-      let k : 6 ≤ length b = exit_length d.call b (ranged h j) v in
-      let c : status_in (decode b) ≡ status_bytes b = ap status_in (exit-decoded h j v) in
-      let u : means r m' (status_in (decode b)) ≡ means r m' (status_bytes b) = ap (means r m') c in
-      let w : is_child (means r m' (status_bytes b)) ≡ false = ap is_child (sym u ∙ y.reply) ∙ exit-silent z s m h j v in
-      line-took a y (other-buffer r m' (status_bytes b) (status_bytes b) w ∙ sym u) (omega (arith, status_length b k, a.short, k)) p
+      let c : status_in (decode b) ≡ st.now = ap status_in (exit-decoded h j i) in
+      let u : means r m' (status_in (decode b)) ≡ means r m' st.now = ap (means r m') c in
+      let w : is_child (means r m' st.now) ≡ false = ap is_child (sym u ∙ y.reply) ∙ exit-silent h j i z s m in
+      line-took a y (other-buffer r m' st.now st.now w ∙ sym u) (omega (arith, exit_length h j i, a.short)) p
 
 -- Whatever tells of no exit: the message is printed.
 message-asks
@@ -244,25 +173,24 @@ module _ {z : Sizes} {s s' b m m' out : List ℕ} {at : ℕ} {o : code.Option De
       : StepAsks z s b m out at
       → Decodes b o
       → o ≡ Some d
-      → CallTook z s s' d.marked d.call b m m' r
+      → CallTook z s s' d.marked d.call m m' r
       → length m ≡ length m'
       → PrintAsks z s' r m' out at
   other-asks a h j t k = message-asks a (take-took h j t) k
 
   pub other-took
-      : {n f : ℕ} {out' : List ℕ} {e : Bool}
+      : {n f : ℕ} {out' : List ℕ}
       → StepAsks z s b m out at
       → Decodes b o
       → o ≡ Some d
-      → CallTook z s s' d.marked d.call b m m' r
+      → ((st : Bor (List ℕ)) → d.call ≡ Exit st → ⊥)
+      → CallTook z s s' d.marked d.call m m' r
       → length m ≡ length m'
-      → e ≡ is_exit d.call
-      → e ≡ false
       → Printed z s' n r m' out at out' f
       → LineTook z s s' n (decode b) m m' out at out' f
-  other-took a h j t k q i p =
+  other-took a h j ne t k p =
       let w : tells_exit (given z s (decode b) m).reply ≡ false =
-      ap (λ (x : Option Step). tells_exit (given z s x m).reply) (sym (decoded h j)) ∙ other_case d.call b d.marked (machine_in z s) (length m) (sym q ∙ i)
+      ap (λ (x : Option Step). tells_exit (given z s x m).reply) (is-step h j) ∙ other_case d.call d.marked (machine_in z s) (length m) ne
       in
       message-took a (take-took h j t) k w p
 
@@ -280,7 +208,7 @@ module _ {z : Sizes} {s b m out : List ℕ} {at : ℕ} {o : code.Option Decoded}
       → LineTook z s s n (decode b) m m out at out' f
   none-took a h j p =
       let w : tells_exit (given z s (decode b) m).reply ≡ false =
-      ap (λ (x : Option Step). tells_exit (given z s x m).reply) (sym (undecoded h j)) ∙ none-tells (machine_in z s) (length m)
+      ap (λ (x : Option Step). tells_exit (given z s x m).reply) (is_none h j) ∙ none-tells (machine_in z s) (length m)
       in
       message-took a (take-none a.well h j) refl w p
 

@@ -1,24 +1,22 @@
 -- The ends of a listing: its first line, and the line of a last step without its line end.
-use Rattle.std.specs.Prelude.{◌≡◌, refl, List, [], ◌∷◌, ℕ, ◌+◌, ◌-◌, ◌≤◌, length, take}
+use Rattle.std.specs.Prelude.{◌≡◌, refl, List, [], ◌∷◌, ℕ, ◌+◌, ◌≤◌, length, take}
 use Rattle.std.proofs.Common.{sym, ap, ◌∙◌, append-nil, arith, length-take-le}
 use Rattle.std.proofs.Math.Option.{Option}
-use Rattle.std.proofs.Math.Seq.{take-length}
-use Rattle.machine.specs.Basics.{ascii}
 use Rattle.machine.specs.Step.{Step}
 use Rattle.machine.specs.Outcome.{Outcome}
 use Rattle.machine.specs.StepOf.{outcome_of}
 use Rattle.machine.specs.Parse.{lines_of, parse_line}
 use Rattle.machine.specs.Print.{print_line}
-use Rattle.machine.specs.Listing.{print_from, header}
+use Rattle.machine.specs.Listing.{print_from}
 use Rattle.state.specs.declared.Sizes.{Sizes}
 use Rattle.holds.specs.Did.{machine_in}
 use Rattle.outcome.specs.Stepped.{Well}
-use Rattle.print.specs.Put.{Put, put_of, put-none, put_as}
+use Rattle.print.specs.Put.{Put, put-none, put_as}
 use Rattle.line.specs.Line.{line_most, LineTaken}
 use Rattle.listing.specs.Fed.{Fed}
 use Rattle.listing.specs.Behind.{Behind, behind-none, behind-step}
 use Rattle.listing.specs.Lines.{lines-last, machine_after}
-use Rattle.listing.specs.Held.{held_most, HeldIs, Kept, held-parse, up_to}
+use Rattle.listing.specs.Held.{held_most, HeldIs, held-parse, up_to}
 
 pub record FinishAsks (z : Sizes) (s held out : List ℕ) (f : Fed) : Type 0 where
   pub well : Well z s

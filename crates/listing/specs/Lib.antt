@@ -8,6 +8,7 @@ pub mod Feed
 pub mod Turn
 pub mod Join
 pub mod Feeding
+pub mod Rest
 pub mod Finish
 pub mod Start
 pub mod Written

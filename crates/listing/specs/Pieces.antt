@@ -69,6 +69,14 @@ end-there (b ∷ bs) h = go (eqb b 10) refl h (end-there bs)
     go true e k r = eqb-true b 10 e
     go false e k r = let n : 1 + end_in bs ≡ suc (end_in bs) = omega arith in rw n (r (omega arith))
 
+-- The place of the first line end is within.
+pub ends-within : (xs : List ℕ) (o : Option ℕ) → o ≡ position (λ (b : ℕ). b == 10) xs → MatchOption o (Unit {0}) (λ i. i < length xs)
+ends-within xs o e = rw e (go (ltb (end_in xs) (length xs)) refl)
+  where
+    go : (c : Bool) → ltb (end_in xs) (length xs) ≡ c → MatchOption (cond c (Some (end_in xs)) None) (Unit {0}) (λ i. i < length xs)
+    go true t = ltb-true (end_in xs) (length xs) t
+    go false t = tt
+
 -- What the place of the first line end from `from` on says of a chunk.
 pub line_ends : (chunk : List ℕ) (from : ℕ) (o : Option ℕ) → from ≤ length chunk → o ≡ position (λ (b : ℕ). b == 10) (drop from chunk)
     → MatchOption o (LineEnd chunk from (length chunk)) (λ i. LineEnd chunk from (from + i))

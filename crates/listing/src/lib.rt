@@ -1,16 +1,18 @@
 // The listing of an input that comes in chunks.
 #![tactic(auto)]
 
-ghost use Rattle.std.specs.Prelude.{◌≡◌, ◌+◌, ◌≤◌, ◌==◌, length, position};
+ghost use Rattle.std.specs.Prelude.{◌≡◌, ◌≤◌, ◌==◌, length, IfSome, IfNone, position};
 ghost use Rattle.listing.specs.Fed.{fed};
 ghost use Rattle.listing.specs.Pieces.{LineEnd};
 ghost use Rattle.listing.specs.Held.{Kept};
 ghost use Rattle.listing.specs.Feed.{FeedAsks, FeedEnds};
+ghost use Rattle.listing.specs.Rest.{IsRest, passed, SplitLine};
 ghost use Rattle.listing.specs.Turn.{TurnAsks, Turned, TextAsks, TextTook};
 ghost use Rattle.listing.specs.Finish.{FinishAsks, Finished};
 ghost use Rattle.listing.specs.Start.{state_size, Started};
 ghost use Rattle.machine.specs.Listing.{header};
 ghost use Rattle.print.specs.Put.{Room, Put};
+ghost use Rattle.state.specs.Lent.{Same};
 
 use line::Machine;
 use print::Out;
@@ -39,14 +41,14 @@ fn newline(text: &[u8]) -> Option<usize>
     text.iter().position(|b| *b == b'\n')
 }
 
-// The place of the first line end from `from` on, or the chunk's end.
-fn line_end(chunk: &[u8], from: usize) -> usize
-    requires { from ≤ length chunk.now }
-    ensures { LineEnd chunk.now from result }
+// The first line of a chunk, without its line end, and what is behind it. None: no line ends in the chunk.
+fn split_line(chunk: &[u8]) -> Option<(&[u8], &[u8])>
+    ensures line { IfSome result (λ p. SplitLine chunk.now p.0.now p.1.now) }
+    ensures none { IfNone result (LineEnd chunk.now 0 (length chunk.now)) }
 {
-    match newline(&chunk[from..]) {
-        Some(i) => from + i,
-        None => chunk.len(),
+    match newline(chunk) {
+        Some(i) => Some((&chunk[..i], &chunk[i + 1..])),
+        None => None,
     }
 }
 
@@ -64,12 +66,11 @@ fn keep(held: &mut [u8], have: usize, text: &[u8]) -> usize
 impl Listing<'_> {
     // Takes the line that ends with `text`: in place, where none of it is held.
     fn take_text(&mut self, text: &[u8], out: &mut Out)
-        requires { TextAsks self.old.machine.sizes self.old.machine.state.now self.old.held self.old.have out.old.bytes.now out.old.used }
-        ensures took { TextTook self.old.machine.sizes self.old.machine.state.now self.new.machine.state.now self.old.number self.old.held self.old.have text.now out.old.bytes.now out.old.used out.new.bytes.now out.new.used }
+        requires { TextAsks self.old.machine.state.sizes self.old.machine.state.bytes.now self.old.held self.old.have out.old.bytes.now out.old.used }
+        ensures took { TextTook self.old.machine.state.sizes self.old.machine.state.bytes.now self.new.machine.state.bytes.now self.old.number self.old.held self.old.have text.now out.old.bytes.now out.old.used out.new.bytes.now out.new.used }
         ensures number { self.new.number ≡ self.old.number }
         ensures held { length self.new.held ≡ length self.old.held }
-        ensures sizes { self.new.machine.sizes ≡ self.old.machine.sizes }
-        ensures state { self.new.machine.state.ghost_name ≡ self.old.machine.state.ghost_name }
+        ensures same { Same self.old.machine.state self.new.machine.state }
         ensures out { out.new.bytes.ghost_name ≡ out.old.bytes.ghost_name }
     {
         if self.have == 0 {
@@ -80,56 +81,57 @@ impl Listing<'_> {
         }
     }
 
-    // Takes the line that begins or goes on at `from`, or holds the rest of the chunk; where to go on.
-    fn turn(&mut self, chunk: &[u8], from: usize, out: &mut Out) -> usize
-        requires { TurnAsks self.old.machine.sizes self.old.machine.state.now chunk.now self.old.held out.old.bytes.now (fed from self.old.have self.old.number out.old.used) }
-        ensures turned { Turned self.old.machine.sizes chunk.now self.old.machine.state.now self.old.held out.old.bytes.now (fed from self.old.have self.old.number out.old.used) self.new.machine.state.now self.new.held out.new.bytes.now (fed result self.new.have self.new.number out.new.used) }
+    // Takes the first line of the chunk, or holds the chunk, where no line ends in it; what is left of it.
+    fn turn<'a>(&mut self, chunk: &'a [u8], out: &mut Out) -> &'a [u8]
+        requires { TurnAsks self.old.machine.state.sizes self.old.machine.state.bytes.now chunk.now self.old.held out.old.bytes.now (fed 0 self.old.have self.old.number out.old.used) }
+        ensures turned { Turned self.old.machine.state.sizes chunk.now self.old.machine.state.bytes.now self.old.held out.old.bytes.now (fed 0 self.old.have self.old.number out.old.used) self.new.machine.state.bytes.now self.new.held out.new.bytes.now (fed (passed chunk.now result.now) self.new.have self.new.number out.new.used) }
+        ensures rest { IsRest chunk.now result.now }
         ensures held { length self.new.held ≡ length self.old.held }
-        ensures sizes { self.new.machine.sizes ≡ self.old.machine.sizes }
-        ensures state { self.new.machine.state.ghost_name ≡ self.old.machine.state.ghost_name }
+        ensures same { Same self.old.machine.state self.new.machine.state }
         ensures out { out.new.bytes.ghost_name ≡ out.old.bytes.ghost_name }
     {
-        let end = line_end(chunk, from);
-        let text = &chunk[from..end];
-        if chunk.len() <= end {
-            self.have = keep(&mut self.held, self.have, text);
-            return end;
+        match split_line(chunk) {
+            Some((text, rest)) => {
+                self.take_text(text, out);
+                self.have = 0;
+                self.number += 1;
+                rest
+            },
+            None => {
+                self.have = keep(&mut self.held, self.have, chunk);
+                b""
+            },
         }
-        self.take_text(text, out);
-        self.have = 0;
-        self.number += 1;
-        end + 1
     }
 
-    // Takes lines from `chunk[from..]` until the chunk is used up or `out` has no room for another; where to go on. A line that the chunk
-    // does not end is held for the next one.
-    pub fn feed(&mut self, chunk: &[u8], from: usize, out: &mut Out) -> usize
-        requires { FeedAsks self.old.machine.sizes self.old.machine.state.now chunk.now self.old.held out.old.bytes.now (fed from self.old.have self.old.number out.old.used) }
-        ensures ends { FeedEnds self.old.machine.sizes chunk.now self.old.machine.state.now self.old.held out.old.bytes.now (fed from self.old.have self.old.number out.old.used) self.new.machine.state.now self.new.held out.new.bytes.now (fed result self.new.have self.new.number out.new.used) }
+    // Takes lines of the chunk until it is used up or `out` has no room for another; what is left of it. A line that the chunk does not
+    // end is held for the next one.
+    pub fn feed<'a>(&mut self, chunk: &'a [u8], out: &mut Out) -> &'a [u8]
+        requires { FeedAsks self.old.machine.state.sizes self.old.machine.state.bytes.now chunk.now self.old.held out.old.bytes.now (fed 0 self.old.have self.old.number out.old.used) }
+        ensures ends { FeedEnds self.old.machine.state.sizes chunk.now self.old.machine.state.bytes.now self.old.held out.old.bytes.now (fed 0 self.old.have self.old.number out.old.used) self.new.machine.state.bytes.now self.new.held out.new.bytes.now (fed (passed chunk.now result.now) self.new.have self.new.number out.new.used) }
+        ensures rest { IsRest chunk.now result.now }
         ensures held { length self.new.held ≡ length self.old.held }
-        ensures sizes { self.new.machine.sizes ≡ self.old.machine.sizes }
-        ensures state { self.new.machine.state.ghost_name ≡ self.old.machine.state.ghost_name }
+        ensures same { Same self.old.machine.state self.new.machine.state }
         ensures out { out.new.bytes.ghost_name ≡ out.old.bytes.ghost_name }
     {
-        let mut at = from;
-        while at < chunk.len() {
-            if out.bytes.len() - out.used < line::most(self.machine.sizes) {
-                return at;
+        let mut rest = chunk;
+        while !rest.is_empty() {
+            if out.bytes.len() - out.used < line::most(self.machine.state.sizes) {
+                return rest;
             }
-            at = self.turn(chunk, at, out);
+            rest = self.turn(rest, out);
         }
-        at
+        rest
     }
 
     // Takes the line begun, where there is one: the last, without its line end.
     pub fn finish(&mut self, out: &mut Out)
-        requires { FinishAsks self.old.machine.sizes self.old.machine.state.now self.old.held out.old.bytes.now (fed 0 self.old.have self.old.number out.old.used) }
-        ensures finished { Finished self.old.machine.sizes self.old.machine.state.now self.old.held out.old.bytes.now (fed 0 self.old.have self.old.number out.old.used) self.new.machine.state.now out.new.bytes.now out.new.used }
+        requires { FinishAsks self.old.machine.state.sizes self.old.machine.state.bytes.now self.old.held out.old.bytes.now (fed 0 self.old.have self.old.number out.old.used) }
+        ensures finished { Finished self.old.machine.state.sizes self.old.machine.state.bytes.now self.old.held out.old.bytes.now (fed 0 self.old.have self.old.number out.old.used) self.new.machine.state.bytes.now out.new.bytes.now out.new.used }
         ensures held { self.new.held ≡ self.old.held }
         ensures have { self.new.have ≡ self.old.have }
         ensures number { self.new.number ≡ self.old.number }
-        ensures sizes { self.new.machine.sizes ≡ self.old.machine.sizes }
-        ensures state { self.new.machine.state.ghost_name ≡ self.old.machine.state.ghost_name }
+        ensures same { Same self.old.machine.state self.new.machine.state }
         ensures out { out.new.bytes.ghost_name ≡ out.old.bytes.ghost_name }
     {
         if self.have != 0 {
@@ -148,18 +150,31 @@ pub fn begin(out: &mut Out)
     out.text(b"step;answer;up;queue;asleep;ticks\n");
 }
 
+// The sizes of `steps`.
+const SIZES: Sizes = Sizes {
+    processes: 16,
+    rendez: 16,
+    locks: 16,
+    timers: 16,
+    cells: 256,
+    hz: 1_000_000,
+};
+
 // Makes a fresh state of the sizes of `steps` in the front of `s`.
 pub fn start(s: &mut [u8]) -> Sizes
     requires { state_size ≤ length s.old }
     ensures { Started s.old s.new result }
 {
-    make::make(s, 16, 16, 16, 16, 256, 1_000_000);
-    Sizes {
-        processes: 16,
-        rendez: 16,
-        locks: 16,
-        timers: 16,
-        cells: 256,
-        hz: 1_000_000,
-    }
+    let z = SIZES;
+    // the number that C callers get, here 0: the sizes are in range, and `s` is long enough
+    make::make(
+        s,
+        u64::from(z.processes),
+        u64::from(z.rendez),
+        u64::from(z.locks),
+        u64::from(z.timers),
+        u64::from(z.cells),
+        u64::from(z.hz),
+    );
+    z
 }

@@ -10,6 +10,11 @@ use Rattle.machine.specs.Good.{Each, running_in}
 abbrev pub bit : Bool → ℕ
 bit b = if b then 1 else 0
 
+-- It is at most 1.
+pub bit-small : (b : Bool) → bit b ≤ 1
+bit-small true = omega arith
+bit-small false = omega arith
+
 -- Where a test decides, both cases.
 pub either : (P : Bool → Type 0) (b : Bool) → P true → P false → P b
 either P true t f = t
@@ -212,6 +217,16 @@ highest-none (suc n) test e i h = go (test n) refl (eqb i n) refl (λ f l. highe
     go true t c f rec = absurd (let y : some n ≡ none = rw (t, highest_below) at e in let z : ◌≡◌ {A = ℕ} 0 1 = cc in omega arith)
     go false t true f rec = subst (λ (j : ℕ). test j ≡ false) (sym (eqb-true i n f)) t
     go false t false f rec = rec (rw (t, highest_below) at e) (omega (arith, eqb-false i n f))
+
+-- A number that is in a list stands in it once or more.
+pub elem-some : (k : ℕ) (xs : List ℕ) → elem k xs ≡ true → 1 ≤ count k xs
+unfolding elem count
+elem-some k [] e = absurd (let d : ◌≡◌ {A = ℕ} 0 1 = cc in omega arith)
+elem-some k (x ∷ xs) e = go (eqb k x) refl (λ f. elem-some k xs f)
+  where
+    go : (b : Bool) → eqb k x ≡ b → (elem k xs ≡ true → 1 ≤ count k xs) → 1 ≤ bit (eqb k x) + count k xs
+    go true t rec = omega (arith, ap bit t)
+    go false t rec = omega (arith, rec (rw (t, elem) at e))
 
 -- A number that is not in a list stands in it no time.
 pub elem-none : (k : ℕ) (xs : List ℕ) → elem k xs ≡ false → count k xs ≡ 0

@@ -2,7 +2,7 @@
 use Rattle.std.specs.Prelude.{◌≡◌, refl, Some, Bool, true, false, ◌&&◌, List, ℕ, ◌≤◌, ◌<◌, leb, length}
 use Rattle.std.proofs.Math.Path.{sym, ap}
 use Rattle.std.proofs.Common.{◌∙◌, arith, le-ltb, lt-ltb, leb-true}
-use Rattle.std.proofs.lemmas.Bool.{false≢true}
+use Rattle.std.proofs.lemmas.Bool.{and_parts}
 use Rattle.machine.specs.Machine as machine
 use Rattle.machine.specs.Good.{SizesInRange}
 use Rattle.state.specs.Places.{sizes_in, total_in}
@@ -18,12 +18,8 @@ pub record MakeAnswers (p r q k c hz : ℕ) (s s' : List ℕ) (n : ℕ) : Type 0
   pub answer : n ≡ make_answer p r q k c hz s
   pub bytes : s' ≡ make_bytes p r q k c hz s
 
-both_true : (a b : Bool) → (a && b) ≡ true → (a ≡ true) × (b ≡ true)
-both_true true b e = (refl, e)
-both_true false b e = absurd (false≢true e)
-
 between-true : (a b v : ℕ) → between a b v ≡ true → (a ≤ v) × (v ≤ b)
-between-true a b v e = let x : (leb a v ≡ true) × (leb v b ≡ true) = both_true (leb a v) (leb v b) e in (leb-true a v x.0, leb-true v b x.1)
+between-true a b v e = let x : (leb a v ≡ true) × (leb v b ≡ true) = and_parts (leb a v) (leb v b) e in (leb-true a v x.0, leb-true v b x.1)
 
 pub record CountsIn (p r q k c : ℕ) : Type 0 where
   pub processes : (1 ≤ p) × (p ≤ 4096)
@@ -39,10 +35,10 @@ counts_in p r q k c e =
     let b : Bool = between 1 4096 r in
     let d : Bool = between 1 4096 q in
     let f : Bool = between 1 4096 k in
-    let x : ((a && b && d && f) ≡ true) × (between 1 65000 c ≡ true) = both_true (a && b && d && f) (between 1 65000 c) e in
-    let y : ((a && b && d) ≡ true) × (f ≡ true) = both_true (a && b && d) f x.0 in
-    let w : ((a && b) ≡ true) × (d ≡ true) = both_true (a && b) d y.0 in
-    let v : (a ≡ true) × (b ≡ true) = both_true a b w.0 in
+    let x : ((a && b && d && f) ≡ true) × (between 1 65000 c ≡ true) = and_parts (a && b && d && f) (between 1 65000 c) e in
+    let y : ((a && b && d) ≡ true) × (f ≡ true) = and_parts (a && b && d) f x.0 in
+    let w : ((a && b) ≡ true) × (d ≡ true) = and_parts (a && b) d y.0 in
+    let v : (a ≡ true) × (b ≡ true) = and_parts a b w.0 in
     record {
       processes = between-true 1 4096 p v.0;
       rendez = between-true 1 4096 r v.1;
@@ -55,7 +51,7 @@ counts_in p r q k c e =
 pub sizes_fit_lem : (p r q k c hz : ℕ) → sizes_fit p r q k c hz ≡ true → SizesInRange (sizes_for p r q k c hz)
 unfolding sizes_fit
 sizes_fit_lem p r q k c hz e =
-    let x : (counts_fit p r q k c ≡ true) × (between 1 4294967295 hz ≡ true) = both_true (counts_fit p r q k c) (between 1 4294967295 hz) e in
+    let x : (counts_fit p r q k c ≡ true) × (between 1 4294967295 hz ≡ true) = and_parts (counts_fit p r q k c) (between 1 4294967295 hz) e in
     let h : CountsIn p r q k c = counts_in p r q k c x.0 in
     record { processes = h.processes; rendez = h.rendez; locks = h.locks; timers = h.timers; cells = h.cells; hz = between-true 1 4294967295 hz x.1 }
 

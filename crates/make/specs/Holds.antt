@@ -1,6 +1,7 @@
 -- The memory of a fresh state holds a fresh machine, by the layout's rules.
 use Rattle.std.specs.Prelude.{if◌then◌else◌, ◌≡◌, refl, Bool, true, false, not, ◌&&◌, List, [], ◌∷◌, map, ℕ, zero, suc, ◌+◌, ◌*◌, ◌≤◌, ltb, length, replicate, set}
 use Rattle.std.proofs.Common.{sym, ◌∙◌, arith, not-suc-le-zero}
+use Rattle.std.proofs.lemmas.Bool.{and_right}
 use Rattle.std.proofs.Math.Path.{ap, subst}
 use Rattle.std.proofs.Math.Option.{none}
 use Rattle.clock.specs.Counts.{counts_of}
@@ -80,10 +81,6 @@ unfolding bits
 bits_none f zero e = refl
 bits_none f (suc n) e = rw (e n, bits_none f n e)
 
-and_false : (b : Bool) → (b && false) ≡ false
-and_false true = refl
-and_false false = refl
-
 -- an empty queue
 queue-empty : (n : ℕ) (g : ℕ → ℕ) → Queue n g 0 0 (walk n g 0)
 queue-empty n g = rw (walk_none n g) (record { chain = record { links = refl; distinct = tt; below = tt }; ends = refl })
@@ -160,9 +157,9 @@ index-fresh : (z : Sizes) → Index z (fresh_memory z)
 unfolding fresh_stores in_use
 index-fresh z =
     record {
-      records = λ w l. sym (bits_none (λ b. ltb (64 * w + b) z.processes && false) 64 (λ k. and_false (ltb (64 * w + k) z.processes)));
+      records = λ w l. sym (bits_none (λ b. ltb (64 * w + b) z.processes && false) 64 (λ k. and_right (ltb (64 * w + k) z.processes) false refl));
       full_records = sym (bits_none (λ w. false) 64 (λ k. refl));
-      cells = λ w l. sym (bits_none (λ b. ltb (64 * w + b) z.cells && false) 64 (λ k. and_false (ltb (64 * w + k) z.cells)));
+      cells = λ w l. sym (bits_none (λ b. ltb (64 * w + b) z.cells && false) 64 (λ k. and_right (ltb (64 * w + k) z.cells) false refl));
       full_cell_words = λ v l. sym (bits_none (λ b. false) 64 (λ k. refl));
       full_cells = sym (bits_none (λ v. false) 16 (λ k. refl));
     }

@@ -15,7 +15,7 @@ use state::{Index, Sizes, State, field};
 const MARK_VALUE: u64 = 5_426_368_344_079_553_864;
 
 // Writes what a fresh state holds beside zeros: the mark and the layout's number, the sizes, the first pid, and the
-// period of timer 0, 10 ms.
+// period of timer 0, 10 ms. That the sizes are in range is a clause, here and in `fill`: a `State` may have any.
 fn put_header(s: &mut State)
     requires { SizesInRange (sizes_in s.old.sizes) }
     ensures same { Same s.old s.new }
@@ -49,29 +49,39 @@ fn fill(s: &mut State)
     put_header(s);
 }
 
-// The number `v`, where it is from 1 to `most`.
-fn up_to(most: u64, v: u64) -> Option<u64>
+// The number `v` of records, where it is from 1 to `most`.
+fn up_to(most: Index, v: u64) -> Option<Index>
     ensures { UpTo most v result }
 {
-    if 1 <= v && v <= most { Some(v) } else { None }
+    let n = Index::try_from(v).ok()?;
+    (1..=most).contains(&n).then_some(n)
 }
 
-// The sizes, as the state holds them, where they are in range.
+// The frequency `v`, where it is one.
+fn frequency(v: u64) -> Option<u32>
+    ensures { UpTo 4294967295 v result }
+{
+    let n = u32::try_from(v).ok()?;
+    (n != 0).then_some(n)
+}
+
+// The sizes, as the state holds them, where they are in range. The numbers come one by one from C, and are together from here on.
 #[tactic(auto, unfolding(crate::specs::Fresh::sizes_fit, crate::specs::Fresh::counts_fit))]
 fn sizes_of(p: u64, r: u64, q: u64, k: u64, c: u64, hz: u64) -> Option<Sizes>
     ensures { SizesFor p r q k c hz result }
 {
     Some(Sizes {
-        processes: up_to(4096, p)? as Index,
-        rendez: up_to(4096, r)? as Index,
-        locks: up_to(4096, q)? as Index,
-        timers: up_to(4096, k)? as Index,
-        cells: up_to(65_000, c)? as Index,
-        hz: up_to(4_294_967_295, hz)? as u32,
+        processes: up_to(4096, p)?,
+        rendez: up_to(4096, r)?,
+        locks: up_to(4096, q)?,
+        timers: up_to(4096, k)?,
+        cells: up_to(65_000, c)?,
+        hz: frequency(hz)?,
     })
 }
 
-// How many bytes a state of these sizes takes, or 2 where one is out of range.
+// How many bytes a state of these sizes takes, or 2 where one is out of range: the number that C callers are answered. The cast loses nothing, and
+// there is no `From` between the two types.
 pub fn size(p: u64, r: u64, q: u64, k: u64, c: u64) -> u64
     ensures { Sized p r q k c result }
 {
@@ -82,7 +92,7 @@ pub fn size(p: u64, r: u64, q: u64, k: u64, c: u64) -> u64
 }
 
 // Makes a fresh state in the front of `s`: 0 where it is made, 2 where a size is out of range, and then 1
-// where `s` is too short; nothing is written in either case.
+// where `s` is too short; nothing is written in either case. These are the numbers that C callers are answered.
 pub fn make(s: &mut [u8], p: u64, r: u64, q: u64, k: u64, c: u64, hz: u64) -> u64
     ensures { MakeAnswers p r q k c hz s.old s.new result }
 {

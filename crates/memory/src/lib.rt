@@ -49,11 +49,10 @@ impl Number for u8 {
     }
 
     fn value(self) -> u64 {
-        self as u64
+        u64::from(self)
     }
 }
 
-// The low byte first.
 impl Number for u16 {
     ghost width = { 2 };
 
@@ -62,20 +61,20 @@ impl Number for u16 {
     ghost fits = { λ n. Unit {0} };
 
     fn load(s: &[u8], at: usize) -> u16 {
-        u8::load(s, at) as u16 + 256 * (u8::load(s, at + 1) as u16)
+        let mut bytes = [0; 2];
+        bytes.copy_from_slice(&s[at..at + 2]);
+        u16::from_le_bytes(bytes)
     }
 
     fn store(self, s: &mut [u8], at: usize) {
-        ((self % 256) as u8).store(s, at);
-        ((self / 256) as u8).store(s, at + 1);
+        s[at..at + 2].copy_from_slice(&self.to_le_bytes());
     }
 
     fn value(self) -> u64 {
-        self as u64
+        u64::from(self)
     }
 }
 
-// The low half first.
 impl Number for u32 {
     ghost width = { 4 };
 
@@ -84,20 +83,20 @@ impl Number for u32 {
     ghost fits = { λ n. Unit {0} };
 
     fn load(s: &[u8], at: usize) -> u32 {
-        u16::load(s, at) as u32 + 65_536 * (u16::load(s, at + 2) as u32)
+        let mut bytes = [0; 4];
+        bytes.copy_from_slice(&s[at..at + 4]);
+        u32::from_le_bytes(bytes)
     }
 
     fn store(self, s: &mut [u8], at: usize) {
-        ((self % 65_536) as u16).store(s, at);
-        ((self / 65_536) as u16).store(s, at + 2);
+        s[at..at + 4].copy_from_slice(&self.to_le_bytes());
     }
 
     fn value(self) -> u64 {
-        self as u64
+        u64::from(self)
     }
 }
 
-// The low half first.
 impl Number for u64 {
     ghost width = { 8 };
 
@@ -106,12 +105,13 @@ impl Number for u64 {
     ghost fits = { λ n. Unit {0} };
 
     fn load(s: &[u8], at: usize) -> u64 {
-        u32::load(s, at) as u64 + 4_294_967_296 * (u32::load(s, at + 4) as u64)
+        let mut bytes = [0; 8];
+        bytes.copy_from_slice(&s[at..at + 8]);
+        u64::from_le_bytes(bytes)
     }
 
     fn store(self, s: &mut [u8], at: usize) {
-        ((self % 4_294_967_296) as u32).store(s, at);
-        ((self / 4_294_967_296) as u32).store(s, at + 4);
+        s[at..at + 8].copy_from_slice(&self.to_le_bytes());
     }
 
     fn value(self) -> u64 {
@@ -143,7 +143,7 @@ impl Number for Option<u16> {
     fn value(self) -> u64 {
         match self {
             None => 0,
-            Some(i) => i as u64 + 1,
+            Some(i) => u64::from(i) + 1,
         }
     }
 }

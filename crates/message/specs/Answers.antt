@@ -1,6 +1,7 @@
 -- What the message writer asks and ensures, and what the code shows at each way out.
 use Rattle.std.specs.Prelude.{◌≡◌, refl, List, [], ◌∷◌, ◌++◌, ℕ, ◌≤◌, length, take, drop}
 use Rattle.std.proofs.Common.{sym, ap, ◌∙◌, arith, length-drop}
+use Rattle.std.proofs.lemmas.List.{nil_from_length}
 use Rattle.machine.specs.Message.{message, cut, up_to_zero, decimal}
 use Rattle.message.specs.Text.{text, text-is, NameEnds, ends-length}
 use Rattle.message.specs.Digits.{Written}
@@ -27,14 +28,10 @@ unfolding message
 message-some name pid [] ne = absurd (ne refl)
 message-some name pid (b ∷ status) ne = ap cut (text-is name pid (b ∷ status))
 
-none_left : (status : List ℕ) → length status ≡ 0 → status ≡ []
-none_left [] e = refl
-none_left (b ∷ status) e = absurd (omega arith)
-
 -- an empty status
 pub written_none : {cell name : List ℕ} {pid : ℕ} {status : List ℕ} → length status ≡ 0 → MessageWritten cell cell name pid status 0
 written_none {cell} {name} {pid} {status} e =
-    let m : message name pid status ≡ [] = rw (none_left status e) (message-none name pid) in
+    let m : message name pid status ≡ [] = rw (nil_from_length status e) (message-none name pid) in
     record { answer = rw m; bytes = rw m; within = omega arith }
 
 -- the parts that are handed on are short

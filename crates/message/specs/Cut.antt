@@ -1,7 +1,8 @@
 -- The cut of a text, its length, and the copy of its first bytes.
-use Rattle.std.specs.Prelude.{◌≡◌, refl, true, false, List, [], ◌∷◌, ◌++◌, ℕ, zero, suc, ◌+◌, ◌-◌, ◌≤◌, ◌<◌, length, get_or, take, drop, set}
-use Rattle.std.proofs.Common.{sym, ap, ◌∙◌, add-one, arith, not-suc-le-zero, le_of_suc-le-suc, lt-ltb, le-ltb, le-leb, length-set, length-take-le}
+use Rattle.std.specs.Prelude.{◌≡◌, refl, Bool, true, false, List, [], ◌∷◌, ◌++◌, ℕ, zero, suc, ◌+◌, ◌-◌, ◌≤◌, ◌<◌, length, get_or, take, drop, set}
+use Rattle.std.proofs.Common.{sym, ap, ◌∙◌, add-one, append-nil, arith, drop_of_length-le, not-suc-le-zero, le_of_suc-le-suc, lt-ltb, le-ltb, le-leb, length-set, length-take-le}
 use Rattle.std.proofs.lemmas.Bool.{lt-leb}
+use Rattle.std.proofs.Math.ListN.{get_or-eq_default}
 use Rattle.std.proofs.Math.Seq.{take-length}
 use Rattle.machine.specs.Message.{move_back, continuation, cut}
 use Rattle.message.specs.Text.{text, text-length, TextAt}
@@ -10,15 +11,15 @@ back-zero : (bytes : List ℕ) → move_back bytes 0 ≡ 0
 unfolding move_back
 back-zero bytes = refl
 
-back-stay : (bytes : List ℕ) (n b : ℕ) → 0 < n → b ≡ get_or bytes n 0 → continuation b ≡ false → move_back bytes n ≡ n
+back-stay : (bytes : List ℕ) (n : ℕ) → 0 < n → continuation (get_or bytes n 0) ≡ false → move_back bytes n ≡ n
 unfolding move_back
-back-stay bytes zero b h e d = absurd (omega arith)
-back-stay bytes (suc n) b h e d = rw (rw e at d, move_back)
+back-stay bytes zero h d = absurd (omega arith)
+back-stay bytes (suc n) h d = rw (d, move_back)
 
-back_more : (bytes : List ℕ) (n b : ℕ) → 0 < n → b ≡ get_or bytes n 0 → continuation b ≡ true → move_back bytes n ≡ move_back bytes (n - 1)
+back_more : (bytes : List ℕ) (n : ℕ) → 0 < n → continuation (get_or bytes n 0) ≡ true → move_back bytes n ≡ move_back bytes (n - 1)
 unfolding move_back
-back_more bytes zero b h e d = absurd (omega arith)
-back_more bytes (suc n) b h e d = let q : suc n - 1 ≡ n = omega arith in rw (q, rw e at d, move_back)
+back_more bytes zero h d = absurd (omega arith)
+back_more bytes (suc n) h d = let q : suc n - 1 ≡ n = omega arith in rw (q, d, move_back)
 
 low : (b : ℕ) → b < 128 → continuation b ≡ false
 unfolding continuation
@@ -31,6 +32,24 @@ high b h = rw (le-leb 128 b (omega arith), le-ltb b 192 h)
 middle : (b : ℕ) → 128 ≤ b → b < 192 → continuation b ≡ true
 unfolding continuation
 middle b h l = rw (le-leb 128 b h, lt-ltb b 192 l)
+
+-- Whether byte k goes on a character; what is past the end does not.
+pub record GoesOn (name digits status : List ℕ) (k : ℕ) (t : Bool) : Type 0 where
+  pub answer : t ≡ continuation (get_or (text name digits status) k 0)
+
+module _ {name digits status : List ℕ} {k b : ℕ} (t : TextAt name digits status k b) where
+  pub goes_low : b < 128 → GoesOn name digits status k false
+  goes_low l = record { answer = sym (low b l) ∙ ap continuation t.byte }
+
+  pub goes_high : 192 ≤ b → GoesOn name digits status k false
+  goes_high l = record { answer = sym (high b l) ∙ ap continuation t.byte }
+
+  pub goes_middle : 128 ≤ b → b < 192 → GoesOn name digits status k true
+  goes_middle l m = record { answer = sym (middle b l m) ∙ ap continuation t.byte }
+
+pub goes-none : {name digits status : List ℕ} {k : ℕ} → length (text name digits status) ≤ k → GoesOn name digits status k false
+goes-none {name} {digits} {status} h =
+    record { answer = sym (low 0 (omega arith)) ∙ ap continuation (sym (get_or-eq_default (text name digits status) 0 h)) }
 
 -- Where the text is cut.
 pub record MovedBack (name digits status : List ℕ) (r : ℕ) : Type 0 where
@@ -50,16 +69,13 @@ move_zero {name} {digits} {status} {n} w h =
     let e : n ≡ 0 = omega arith in
     record { place = sym (back-zero (text name digits status)) ∙ (rw e at w.same); within = omega arith }
 
-module _ {name digits status : List ℕ} {n b : ℕ} (w : Moving name digits status n) (h : 0 < n) (t : TextAt name digits status n b) where
-  pub move_low : b < 128 → MovedBack name digits status n
-  move_low l = record { place = sym (back-stay (text name digits status) n b h t.byte (low b l)) ∙ w.same; within = w.within }
+module _ {name digits status : List ℕ} {n : ℕ} {t : Bool} (w : Moving name digits status n) (h : 0 < n) (g : GoesOn name digits status n t) where
+  pub move_stop : t ≡ false → MovedBack name digits status n
+  move_stop e = record { place = sym (back-stay (text name digits status) n h (sym g.answer ∙ e)) ∙ w.same; within = w.within }
 
-  pub move_high : 192 ≤ b → MovedBack name digits status n
-  move_high l = record { place = sym (back-stay (text name digits status) n b h t.byte (high b l)) ∙ w.same; within = w.within }
-
-  pub move_more : 128 ≤ b → b < 192 → Moving name digits status (n - 1)
-  move_more l m =
-      record { within = omega (arith, w.within); same = sym (back_more (text name digits status) n b h t.byte (middle b l m)) ∙ w.same }
+  pub move_more : t ≡ true → Moving name digits status (n - 1)
+  move_more e =
+      record { within = omega (arith, w.within); same = sym (back_more (text name digits status) n h (sym g.answer ∙ e)) ∙ w.same }
 
 -- The length of the text once it is cut; what is left of it is its first r bytes.
 pub record CutLength (name digits status : List ℕ) (r : ℕ) : Type 0 where
@@ -146,3 +162,18 @@ copy_more {cell} {name} {digits} {status} {cell₁} {cell₂} {n} {i} {b} w h t 
 
 pub copy-end : {cell name digits status cell₁ : List ℕ} {n i : ℕ} → Copying cell name digits status n cell₁ i → n ≤ i → Copied cell name digits status n cell₁
 copy-end {n = n} {i = i} w h = let e : i ≡ n = omega (arith, w.within) in record { bytes = rw (← e) w.bytes }
+
+-- The same in the front of a longer cell, and what is behind it.
+pub copied_front : {cell name digits status part : List ℕ} {n : ℕ} → n ≤ length cell → Copied (take n cell) name digits status (length (take n cell)) part
+    → Copied cell name digits status n (part ++ drop n cell)
+copied_front {cell} {name} {digits} {status} {part} {n} h c =
+    let e : length (take n cell) ≡ n = length-take-le n cell h in
+    let d : drop n (take n cell) ≡ [] = drop_of_length-le (take n cell) {i = n} (omega (arith, e)) in
+    let b : part ≡ take n (text name digits status) ++ drop n (take n cell) =
+    c.bytes ∙ ap (λ (k : ℕ). take k (text name digits status) ++ drop k (take n cell)) e
+    in
+    record {
+      bytes =
+          ap (λ (xs : List ℕ). xs ++ drop n cell)
+          (b ∙ ap (λ (xs : List ℕ). take n (text name digits status) ++ xs) d ∙ append-nil (take n (text name digits status)));
+    }

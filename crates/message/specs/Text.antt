@@ -1,8 +1,11 @@
 -- The whole text of a message, byte by byte, and the name up to its first zero byte.
-use Rattle.std.specs.Prelude.{if◌then◌else◌, ◌≡◌, refl, Bool, true, false, not, Option, None, Some, unwrap_or, List, [], ◌∷◌, ◌++◌, ℕ, suc, ◌+◌, ◌-◌, ◌≤◌, ◌<◌, ltb, eqb, length, get_or, take, position}
+use denote.Ref.{Bor}
+use Rattle.std.specs.Prelude.{if◌then◌else◌, ◌≡◌, refl, Bool, true, false, not, Option, None, Some, MatchOption, unwrap_or, List, [], ◌∷◌, ◌++◌, ℕ, suc, ◌+◌, ◌-◌, ◌≤◌, ◌<◌, ltb, eqb, length, get_or, take, position}
 use Rattle.std.specs.List.{position_or_len}
+use Rattle.std.specs.Option.{option_copied}
+use Rattle.std.specs.Slice.{IsItemAt}
 use Rattle.std.proofs.Common.{ltb-false, sym, ap, ◌∙◌, append_assoc, arith, length-append, get_or-append-add, length-take-le}
-use Rattle.std.proofs.Math.ListN.{get_or-append, get_or-eq_default}
+use Rattle.std.proofs.Math.ListN.{get_or-append}
 use Rattle.machine.specs.Basics.{ascii}
 use Rattle.machine.specs.Message.{up_to_zero, decimal}
 
@@ -34,7 +37,7 @@ two-more x n0 n1 = omega arith
 pub record TextAt (name digits status : List ℕ) (k r : ℕ) : Type 0 where
   pub byte : r ≡ get_or (text name digits status) k 0
 
--- what the code shows at each return of `text_at`
+-- what the code shows at each return of `Text::byte_at`
 pub at_name : {name digits status : List ℕ} {k : ℕ} → k < length name → TextAt name digits status k (get_or name k 0)
 unfolding text
 at_name {name} {digits} {status} {k} h = record { byte = sym (get_or-append name (32 ∷ (digits ++ (58 ∷ 32 ∷ status))) 0 k h) }
@@ -82,10 +85,16 @@ module _ {name digits status : List ℕ} {k : ℕ} (h : length name ≤ k) where
       → TextAt name digits status k (get_or status (k - length name - 1 - length digits - 2) 0)
   at_status ne l n0 n1 = record { byte = sym (past_colon name digits status k h ne l n0 n1) }
 
-  pub at-end : (k - length name ≡ 0 → ⊥) → length digits ≤ k - length name - 1 → (k - length name - 1 - length digits ≡ 0 → ⊥)
-      → (k - length name - 1 - length digits ≡ 1 → ⊥) → length status ≤ k - length name - 1 - length digits - 2
-      → TextAt name digits status k 0
-  at-end ne l n0 n1 m = record { byte = sym (past_colon name digits status k h ne l n0 n1 ∙ get_or-eq_default status 0 m) }
+-- a byte of the status, or none
+pub at_rest
+    : (name digits status : List ℕ) (k : ℕ) → length name ≤ k → (k - length name ≡ 0 → ⊥) → length digits ≤ k - length name - 1
+    → (k - length name - 1 - length digits ≡ 0 → ⊥) → (k - length name - 1 - length digits ≡ 1 → ⊥)
+    → (g : Option (Bor ℕ)) → IsItemAt status (k - length name - 1 - length digits - 2) g
+    → MatchOption (option_copied g) (length (text name digits status) ≤ k) (TextAt name digits status k)
+at_rest name digits status k h ne l n0 n1 None i = omega (arith, text-length name digits status, i.3)
+at_rest name digits status k h ne l n0 n1 (Some x) i =
+    let s : TextAt name digits status k (get_or status (k - length name - 1 - length digits - 2) 0) = at_status h ne l n0 n1 in
+    record { byte = i.4 (omega arith) 0 ∙ s.byte }
 
 -- The name ends at r: at its first zero byte, or where the list ends.
 pub record NameEnds (name : List ℕ) (r : ℕ) : Type 0 where

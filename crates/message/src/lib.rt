@@ -2,10 +2,10 @@
 // a space and the status; over 127 bytes cut at 127, moving back over bytes 10xxxxxx.
 #![tactic(auto)]
 
-ghost use Rattle.std.specs.Prelude.{◌≡◌, ◌+◌, ◌%◌, ◌≤◌, length, drop};
-ghost use Rattle.message.specs.Text.{TextAt, NameEnds};
+ghost use Rattle.std.specs.Prelude.{◌≡◌, ◌+◌, ◌%◌, ◌<◌, ◌≤◌, length, drop, MatchOption};
+ghost use Rattle.message.specs.Text.{text, TextAt, NameEnds};
 ghost use Rattle.message.specs.Digits.{Written};
-ghost use Rattle.message.specs.Cut.{MovedBack, CutAsks, CutLength, CopyAsks, Copied};
+ghost use Rattle.message.specs.Cut.{GoesOn, MovedBack, CutAsks, CutLength, CopyAsks, Copied};
 ghost use Rattle.message.specs.Answers.{MessageAsks, MessageWritten};
 ghost use Rattle.message.specs.Called.{MessageAnswers};
 
@@ -17,18 +17,20 @@ fn name_len(name: &[u8]) -> usize
     zero.unwrap_or(name.len())
 }
 
-// The last digit of `n`.
+// The last digit of `n`. A cast, since a remainder is below 10.
 fn digit(n: u64) -> u8
     ensures { result ≡ 48 + n % 10 }
 {
-    48 + (n % 10) as u8
+    b'0' + (n % 10) as u8
 }
 
 // The digits of a number of 64 bits: those of `bytes` from `from` on.
-#[derive(Clone, Copy)]
+// By hand and not by `Display`, which writes to a `fmt::Write` and answers a Result: there is always room for the digits here.
+#[derive(Clone, Copy, Debug, PartialEq, Eq)]
 pub struct Digits {
     bytes: [u8; 20],
     from: usize,
+    ghost inside: { from < 20 },
 }
 
 impl Digits {
@@ -51,7 +53,6 @@ impl Digits {
 
     // They as bytes.
     pub fn as_bytes(&self) -> &[u8]
-        requires { self.now.from ≤ length self.now.bytes }
         ensures { result.now ≡ drop self.now.from self.now.bytes }
     {
         &self.bytes[self.from..]
@@ -59,7 +60,7 @@ impl Digits {
 }
 
 // The whole text of a message: the name, a space, the digits, a colon, a space and the status.
-#[derive(Clone, Copy)]
+#[derive(Clone, Copy, Debug, PartialEq, Eq)]
 struct Text<'a> {
     name: &'a [u8],
     digits: &'a [u8],
@@ -67,49 +68,47 @@ struct Text<'a> {
 }
 
 impl Text<'_> {
-    // Byte `k` of it, 0 past its end.
-    fn byte_at(&self, k: usize) -> u8
-        ensures { TextAt self.now.name.now self.now.digits.now self.now.status.now k result }
+    // Byte `k` of it: none past its end.
+    // By its place, since the way back asks so: an iterator over the parts would begin at the front for each byte.
+    fn byte_at(&self, k: usize) -> Option<u8>
+        ensures { MatchOption result (length (text self.now.name.now self.now.digits.now self.now.status.now) ≤ k) (TextAt self.now.name.now self.now.digits.now self.now.status.now k) }
     {
         if k < self.name.len() {
-            return self.name[k];
+            return Some(self.name[k]);
         }
         let a = k - self.name.len();
         if a == 0 {
-            return 32;
+            return Some(b' ');
         }
         let b = a - 1;
         if b < self.digits.len() {
-            return self.digits[b];
+            return Some(self.digits[b]);
         }
         let e = b - self.digits.len();
         if e == 0 {
-            return 58;
+            return Some(b':');
         }
         if e == 1 {
-            return 32;
+            return Some(b' ');
         }
-        let f = e - 2;
-        if f < self.status.len() {
-            return self.status[f];
-        }
-        0
+        self.status.get(e - 2).copied()
+    }
+
+    // Is byte `k` one of 10xxxxxx, which goes on a character that began before it?
+    fn goes_on(&self, k: usize) -> bool
+        ensures { GoesOn self.now.name.now self.now.digits.now self.now.status.now k result }
+    {
+        matches!(self.byte_at(k), Some(128..=191))
     }
 
     // Where it is cut at 127 bytes or before: back while the first dropped byte is 10xxxxxx.
     fn move_back(&self) -> usize
         ensures { MovedBack self.now.name.now self.now.digits.now self.now.status.now result }
     {
-        let mut n: usize = 127;
-        while 0 < n {
-            let b = self.byte_at(n);
-            if b < 128 {
+        for n in (1..128).rev() {
+            if !self.goes_on(n) {
                 return n;
             }
-            if 192 <= b {
-                return n;
-            }
-            n -= 1;
         }
         0
     }
@@ -129,19 +128,22 @@ impl Text<'_> {
         self.move_back()
     }
 
-    // Writes its first `n` bytes into the front of the cell.
-    // Byte by byte, since the cut may fall in any of its parts: a copy of each part up to `n` is no plainer.
-    fn copy(&self, cell: &mut [u8], n: usize)
-        requires { CopyAsks cell.old self.now.name.now self.now.digits.now self.now.status.now n }
-        ensures { Copied cell.old self.now.name.now self.now.digits.now self.now.status.now n cell.new }
+    // Writes its first bytes over all of `cell`.
+    // Byte by byte, since the cut may fall in any of its parts: a copy of each part up to the cut is no plainer.
+    fn copy(&self, cell: &mut [u8])
+        requires { CopyAsks cell.old self.now.name.now self.now.digits.now self.now.status.now (length cell.old) }
+        ensures { Copied cell.old self.now.name.now self.now.digits.now self.now.status.now (length cell.old) cell.new }
     {
-        for i in 0..n {
-            cell[i] = self.byte_at(i);
+        for (i, to) in cell.iter_mut().enumerate() {
+            if let Some(b) = self.byte_at(i) {
+                *to = b;
+            }
         }
     }
 }
 
 // Writes the message of an exit into its cell, and leaves the bytes behind it; the message's length.
+// Its parts come one by one, as C's do: a struct of them would be made and taken apart at each of two calls.
 pub fn write_message(cell: &mut [u8], name: &[u8], pid: u64, status: &[u8]) -> u8
     requires { MessageAsks cell.old name.now }
     ensures { MessageWritten cell.old cell.new name.now pid status.now result }
@@ -157,9 +159,15 @@ pub fn write_message(cell: &mut [u8], name: &[u8], pid: u64, status: &[u8]) -> u
         status,
     };
     let n = text.cut_len();
-    text.copy(cell, n);
+    text.copy(&mut cell[..n]);
+    // A cast, since a length is at most 127: `u8::try_from` would have an error that never comes.
     n as u8
 }
+
+// How many bytes a cell has for a message, and a record for a name.
+const MESSAGE_SIZE: usize = 127;
+
+const NAME_SIZE: usize = 28;
 
 // The refusal of lengths: the number 2, which is a length too, and 256.
 const REFUSED: u64 = 258;
@@ -169,11 +177,11 @@ const REFUSED: u64 = 258;
 pub fn exit_message(cell: &mut [u8], name: &[u8], pid: u64, status: &[u8]) -> u64
     ensures { MessageAnswers cell.old cell.new name.now pid status.now result }
 {
-    if cell.len() < 127 {
+    if cell.len() < MESSAGE_SIZE {
         return REFUSED;
     }
-    if 28 < name.len() {
+    if NAME_SIZE < name.len() {
         return REFUSED;
     }
-    write_message(&mut cell[..127], name, pid, status) as u64
+    u64::from(write_message(&mut cell[..MESSAGE_SIZE], name, pid, status))
 }

@@ -1,7 +1,7 @@
 -- How a step's contract is met: it is done, or refused.
 use Rattle.std.specs.Prelude.{◌≡◌, List, [], ℕ, Result, Err}
-use Rattle.std.proofs.Common.{sym, ap, ◌∙◌, arith}
-use Rattle.std.proofs.Math.Option.{none, some}
+use Rattle.std.proofs.Common.{sym, ap, ◌∙◌}
+use Rattle.std.proofs.Math.Option.{none, some, none-ne-some}
 use Rattle.machine.specs.Machine.{Machine}
 use Rattle.machine.specs.Step.{Step}
 use Rattle.machine.specs.Table.{refusal}
@@ -26,9 +26,6 @@ step-refused : (m : Machine) (x : Step) (n : ℕ) → refusal m x ≡ some n →
 unfolding step_of
 step-refused m x n e = rw e
 
-none-some : {n : ℕ} → none ≡ some n → ⊥
-none-some e = let d : ◌≡◌ {A = ℕ} 0 1 = cc in omega arith
-
 -- What the table does not refuse is done.
 pub stepped-done
     : {z : Sizes} {s s' : List ℕ} {x : Step} {m : List ℕ} {r : Result Reply Refusal}
@@ -47,7 +44,7 @@ stepped-done {z} {s} {s'} {x} {m} {r} e h w a t k =
       told = t ∙ ap (λ (o : Outcome). told o.reply) (sym d);
       machine = k ∙ ap (λ (o : Outcome). o.after) (sym d);
       spares = w;
-      left = λ n q. absurd (none-some (sym e ∙ refused_by_lem (machine_in z s) x n q));
+      left = λ n q. absurd (none-ne-some n (sym e ∙ refused_by_lem (machine_in z s) x n q));
     }
 
 -- A refusal with its number.

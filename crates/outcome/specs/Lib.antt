@@ -1,4 +1,5 @@
 -- What a step's answer stands for, what a step ensures, and the number that each step meets.
+pub mod Answer
 pub mod Means
 pub mod Length
 pub mod Stepped

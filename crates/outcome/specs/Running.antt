@@ -3,11 +3,10 @@ use Rattle.std.specs.Prelude.{◌≡◌, Bool, true, false, List, [], ◌⊎◌,
 use Rattle.std.proofs.Common.{subst, sym, ap, ◌∙◌, inl, inr}
 use Rattle.std.proofs.Math.Option.{none, some}
 use Rattle.std.proofs.Math.Path.{refl}
-use Rattle.machine.specs.Machine.{Machine}
 use Rattle.machine.specs.Step.{Body}
 use Rattle.machine.specs.Table.{refusal}
-use Rattle.machine.specs.Perform.{current}
 use Rattle.machine.specs.StepOf.{left_by}
+pub use Rattle.kept.specs.Simple.{current-is}
 use Rattle.state.specs.Fields as fields
 use Rattle.state.specs.Abs.{link_to, machine_of}
 use Rattle.state.specs.Places.{mem_in}
@@ -39,10 +38,6 @@ nobody-up z s e = up_in z s ∙ ap link_to e
 
 pub somebody-up : (z : Sizes) (s : List ℕ) {i : ℕ} → mem_in z s fields.up 0 ≡ suc i → (machine_in z s).up ≡ some i
 somebody-up z s e = up_in z s ∙ ap link_to e
-
-pub current-is : (m : Machine) (i : ℕ) → m.up ≡ some i → current m ≡ i
-unfolding current
-current-is m i e = rw e
 
 -- What a step meets that needs somebody to run, and is not to be marked.
 pub not-running

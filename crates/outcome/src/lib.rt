@@ -1,14 +1,12 @@
 // What a step answers, why one is refused, and who runs.
 #![tactic(auto)]
 
-pub mod lent;
-
 ghost use Rattle.std.specs.Prelude.{◌≡◌, false, IfOk, IfErr};
 ghost use Rattle.outcome.specs.Means.{number};
 ghost use Rattle.rules.specs.Code.{Long};
 ghost use Rattle.outcome.specs.Running.{IsRunning, NotRunning};
 
-use state::{Index, Sizes, View};
+use state::{Index, View, field};
 
 // Why a step is refused; a case's value is its number in docs/MACHINE.md, "Refusals". The four that r9 returns as errors have its
 // names.
@@ -51,7 +49,7 @@ pub enum Refusal {
 }
 
 impl Refusal {
-    // The number that the table of refusals gives it, from 1 to 17.
+    // The number that the table of refusals gives it, from 1 to 17: the cast gives a case's value, which no conversion of std does.
     pub fn number(self) -> u8
         ensures { result ≡ number self }
     {
@@ -59,7 +57,8 @@ impl Refusal {
     }
 }
 
-// Numbers of processes and timers are as the listing prints them; a message is as long as `length` says, at the front of the message buffer.
+// Numbers of processes and timers are as the listing prints them; a message is as long as `length` says, at the front of the message buffer,
+// which is a C caller's, so that an answer holds no bytes and no loan of them.
 #[derive(Clone, Copy, Debug, PartialEq, Eq)]
 pub enum Reply {
     Pid { pid: u64 },
@@ -76,22 +75,35 @@ pub enum Reply {
     End,
 }
 
-// The same for callers that hold the bytes and the sizes apart.
+// The answer to a question.
+impl From<bool> for Reply {
+    ghost use Rattle.std.specs.Prelude.{◌≡◌};
+    ghost use Rattle.outcome.specs.Answer.{yes_no};
+
+    ghost from_gives = { λ yes r. r ≡ yes_no yes };
+
+    fn from(yes: bool) -> Reply {
+        if yes { Reply::Yes } else { Reply::No }
+    }
+}
 
 // The record of the process that runs.
-pub fn up(s: &[u8], z: Sizes) -> Result<Index, Refusal>
-    requires { Long z s.now }
-    ensures ok { IfOk result (IsRunning z s.now false) }
-    ensures err { IfErr result (NotRunning z s.now false) }
+pub fn up(v: &View) -> Result<Index, Refusal>
+    requires { Long v.now.sizes v.now.bytes.now }
+    ensures ok { IfOk result (IsRunning v.now.sizes v.now.bytes.now false) }
+    ensures err { IfErr result (NotRunning v.now.sizes v.now.bytes.now false) }
 {
-    lent::up(&View { bytes: s, sizes: z })
+    v.get(field::UP, 0).ok_or(Refusal::NoneRuns)
 }
 
 // The record of the process that runs, for a step that is not taken in interrupt context.
-pub fn running(s: &[u8], z: Sizes, in_interrupt: bool) -> Result<Index, Refusal>
-    requires { Long z s.now }
-    ensures ok { IfOk result (IsRunning z s.now in_interrupt) }
-    ensures err { IfErr result (NotRunning z s.now in_interrupt) }
+pub fn running(v: &View, in_interrupt: bool) -> Result<Index, Refusal>
+    requires { Long v.now.sizes v.now.bytes.now }
+    ensures ok { IfOk result (IsRunning v.now.sizes v.now.bytes.now in_interrupt) }
+    ensures err { IfErr result (NotRunning v.now.sizes v.now.bytes.now in_interrupt) }
 {
-    lent::running(&View { bytes: s, sizes: z }, in_interrupt)
+    if in_interrupt {
+        return Err(Refusal::InInterrupt);
+    }
+    up(v)
 }

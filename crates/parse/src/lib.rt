@@ -14,8 +14,11 @@ ghost use Rattle.parse.specs.Parsed.{bit, Asks, IsParsed};
 
 use memory::Number;
 
+// The most bytes of a line that is a step.
+const LINE_MOST: usize = 4_096;
+
 // The kinds of step, with the number of each.
-#[derive(Clone, Copy)]
+#[derive(Clone, Copy, Debug, PartialEq, Eq)]
 enum Kind {
     Start = 1,
     Rfork = 2,
@@ -39,10 +42,17 @@ enum Kind {
 }
 
 // What a step has behind its word: so many numbers, or a byte string.
-#[derive(Clone, Copy)]
+#[derive(Clone, Copy, Debug, PartialEq, Eq)]
 enum Fields {
     Numbers(usize),
     Bytes,
+}
+
+// What a step's bytes begin with: its kind, and whether its line is marked.
+#[derive(Clone, Copy, Debug, PartialEq, Eq)]
+struct Head {
+    kind: Kind,
+    marked: bool,
 }
 
 impl Kind {
@@ -124,7 +134,7 @@ fn number(word: &[u8]) -> Option<u64>
         if !b.is_ascii_digit() {
             return None;
         }
-        value = value.checked_mul(10)?.checked_add((*b - b'0') as u64)?;
+        value = value.checked_mul(10)?.checked_add(u64::from(*b - b'0'))?;
     }
     Some(value)
 }
@@ -147,12 +157,12 @@ fn read_numbers(rest: Option<&[u8]>, numbers: &mut [u64]) -> Option<()>
 }
 
 // Writes the kind byte and the context byte.
-fn put_head(out: &mut [u8], kind: Kind, marked: bool)
+fn put_head(out: &mut [u8], head: Head)
     requires { 2 ≤ length out.old }
-    ensures { out.new ≡ number_of kind ∷ bit marked ∷ drop 2 out.old }
+    ensures { out.new ≡ number_of head.kind ∷ bit head.marked ∷ drop 2 out.old }
 {
-    out[0] = kind as u8;
-    out[1] = u8::from(marked);
+    out[0] = head.kind as u8;
+    out[1] = u8::from(head.marked);
 }
 
 // Writes numbers from byte 2 on.
@@ -166,22 +176,23 @@ fn store(out: &mut [u8], numbers: &[u64])
 }
 
 // Writes a step with numbers as its fields; how many bytes it is.
-fn put_numbers(out: &mut [u8], kind: Kind, marked: bool, numbers: &[u64]) -> usize
+fn put_numbers(out: &mut [u8], head: Head, numbers: &[u64]) -> usize
     requires { 2 + 8 * length numbers.now ≤ length out.old }
-    ensures { Put (number_bytes (number_of kind) (bit marked) numbers.now) out.old out.new result }
+    ensures { Put (number_bytes (number_of head.kind) (bit head.marked) numbers.now) out.old out.new result }
 {
-    put_head(out, kind, marked);
+    put_head(out, head);
     store(out, numbers);
     2 + 8 * numbers.len()
 }
 
 // Writes a step with a byte string as its field; how many bytes it is.
-fn put_string(out: &mut [u8], kind: Kind, marked: bool, text: &[u8]) -> usize
+fn put_string(out: &mut [u8], head: Head, text: &[u8]) -> usize
     requires { TextAsks out.old text.now }
-    ensures { Put (text_bytes (number_of kind) (bit marked) text.now) out.old out.new result }
+    ensures { Put (text_bytes (number_of head.kind) (bit head.marked) text.now) out.old out.new result }
 {
     let end = 6 + text.len();
-    put_head(out, kind, marked);
+    put_head(out, head);
+    // a cast, proved to lose nothing: `try_from` would answer a `Result` that is never an `Err`
     (text.len() as u32).store(out, 2);
     out[6..end].copy_from_slice(text);
     end
@@ -194,23 +205,26 @@ fn body(line: &[u8], marked: bool, out: &mut [u8]) -> Option<usize>
 {
     let (word, rest) = split(line);
     let kind = Kind::named(word)?;
+    let head = Head { kind, marked };
     match kind.fields() {
-        Fields::Bytes => Some(put_string(out, kind, marked, rest.unwrap_or(b""))),
+        Fields::Bytes => Some(put_string(out, head, rest.unwrap_or(b""))),
         Fields::Numbers(n) => {
+            // no Vec: no library has a heap
             let mut all = [0u64; 6];
             let numbers = &mut all[..n];
             read_numbers(rest, numbers)?;
-            Some(put_numbers(out, kind, marked, numbers))
+            Some(put_numbers(out, head, numbers))
         },
     }
 }
 
 // The step bytes of a line, at the front of `out`: how many they are. None: the line is no step, and `out` stays as it is.
+// How many, and not the slice: what a lent `out` holds afterwards could be said only in a starred clause.
 pub fn parse(line: &[u8], out: &mut [u8]) -> Option<usize>
     requires { 4128 ≤ length out.old }
     ensures { IsParsed (parse_line line.now) out.old out.new result }
 {
-    if 4096 < line.len() {
+    if LINE_MOST < line.len() {
         return None;
     }
     match line.strip_prefix(b"i ".as_slice()) {

@@ -1,8 +1,8 @@
 -- A process that has been taken off its place and not yet put on another.
-use Rattle.std.specs.Prelude.{◌≡◌, refl, Bool, true, false, ◌&&◌, List, [], ◌∷◌, ℕ, zero, suc, ◌<◌, eqb}
+use Rattle.std.specs.Prelude.{◌≡◌, refl, Bool, true, false, List, [], ◌∷◌, ℕ, zero, suc, ◌<◌, eqb}
 use Rattle.std.proofs.Common.{sym, ap, subst, ◌∙◌, arith, eqb-true, ne_eqb}
 use Rattle.std.proofs.Math.Path.{subst₃}
-use Rattle.std.proofs.lemmas.Bool.{false≢true, eqb-false}
+use Rattle.std.proofs.lemmas.Bool.{false≢true, eqb-false, and_right}
 use Rattle.machine.specs.Machine.{Sizes}
 use Rattle.machine.specs.Good.{Each}
 use Rattle.layout.specs.Memory.{Memory, alter}
@@ -94,13 +94,9 @@ pub waits-state : (m : Memory) (i : ℕ) → (m fields.state_of i ≡ 3 → ⊥)
 unfolding waits_on
 waits-state m i ne = rw (ne_eqb (m fields.state_of i) 3 ne)
 
-and_false : (b : Bool) → (b && false) ≡ false
-and_false true = refl
-and_false false = refl
-
 pub waits-call : (m : Memory) (i : ℕ) → (m fields.resume_kind i ≡ 4 → ⊥) → waits_on m i ≡ false
 unfolding waits_on
-waits-call m i ne = rw (ne_eqb (m fields.resume_kind i) 4 ne) (and_false (eqb (m fields.state_of i) 3))
+waits-call m i ne = rw (ne_eqb (m fields.resume_kind i) 4 ne) (and_right (eqb (m fields.state_of i) 3) false refl)
 
 -- It depends on the state and the call alone.
 pub waits_alike

@@ -1,5 +1,5 @@
 -- A process's pid, and that of the process that runs.
-use Rattle.std.specs.Prelude.{◌≡◌, List, [], ◌∷◌, ℕ, suc, ◌-◌, ◌<◌}
+use Rattle.std.specs.Prelude.{◌≡◌, List, [], ◌∷◌, ℕ, suc, ◌<◌}
 use Rattle.std.proofs.Math.Path.{sym}
 use Rattle.std.proofs.Common.{ap, ◌∙◌, arith}
 use Rattle.machine.specs.Basics.{ascii}
@@ -42,18 +42,17 @@ pub record UpAsks (z : Sizes) (s out : List ℕ) (at : ℕ) : Type 0 where
 pub record UpPut (z : Sizes) (s out : List ℕ) (at : ℕ) (out' : List ℕ) (r : ℕ) : Type 0 where
   pub put : Put 20 out at (print_up (machine_in z s)) out' r
 
--- Who runs, by the link l.
-module _ {z : Sizes} {s out : List ℕ} {at : ℕ} (a : UpAsks z s out at) {l : ℕ} (e : l ≡ mem_in z s fields.up 0) where
-  pub up-asks : (l ≡ 0 → ⊥) → PidAsks z s (l - 1) out at
-  up-asks ne =
+-- Nobody runs.
+pub up_none : {z : Sizes} {s out : List ℕ} {at : ℕ} {out' : List ℕ} {r : ℕ} → 0 ≡ mem_in z s fields.up 0 → Put 1 out at (48 ∷ []) out' r → UpPut z s out at out' r
+unfolding print_up machine_of ascii
+up_none e p = record { put = put_as p (rw (sym e)) (omega arith) }
+
+-- Process i runs.
+module _ {z : Sizes} {s out : List ℕ} {at i : ℕ} (e : suc i ≡ mem_in z s fields.up 0) where
+  pub up-asks : UpAsks z s out at → PidAsks z s i out at
+  up-asks a =
       record { holds = a.holds; index = omega (arith, e, at_most (holds-bounds a.holds) fields.up 0); room = a.room }
 
-  pub up_none : {out' : List ℕ} {r : ℕ} → l ≡ 0 → Put 1 out at (48 ∷ []) out' r → UpPut z s out at out' r
-  unfolding print_up machine_of ascii
-  up_none d p = record { put = put_as p (rw (sym e ∙ d)) (omega arith) }
-
-  pub up-some : {out' : List ℕ} {r : ℕ} → (l ≡ 0 → ⊥) → PidPut z s (l - 1) out at out' r → UpPut z s out at out' r
+  pub up-some : {out' : List ℕ} {r : ℕ} → PidPut z s i out at out' r → UpPut z s out at out' r
   unfolding print_up machine_of
-  up-some ne p =
-      let d : mem_in z s fields.up 0 ≡ suc (l - 1) = sym e ∙ omega arith in
-      record { put = put_as p.put (rw d) (omega arith) }
+  up-some p = record { put = put_as p.put (rw (sym e)) (omega arith) }

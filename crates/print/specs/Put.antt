@@ -1,4 +1,4 @@
--- Bytes put into a lent buffer, and the loop that puts a text.
+-- Bytes put into a lent buffer, and a text put there.
 use Rattle.std.specs.Prelude.{◌≡◌, refl, List, [], ◌++◌, ℕ, ◌+◌, ◌≤◌, length, take, drop}
 use Rattle.std.proofs.Common.{sym, ap, ◌∙◌, append_assoc, arith, length-append, length-drop, length-take-le, take_at, drop_at, drop-drop}
 use Rattle.std.proofs.Math.Seq.{take-length, paste, paste-zero}

@@ -1,5 +1,5 @@
 -- The run queue: a pid for each, a comma before each but the first.
-use Rattle.std.specs.Prelude.{◌≡◌, ℕ, suc, ◌-◌, ◌*◌, ◌≤◌, length, List, [], ◌∷◌}
+use Rattle.std.specs.Prelude.{◌≡◌, refl, ℕ, suc, ◌*◌, ◌≤◌, length, List, [], ◌∷◌}
 use Rattle.std.proofs.Common.{ap, ◌∙◌, arith}
 use Rattle.machine.specs.Basics.{ascii}
 use Rattle.machine.specs.Print.{print_queue}
@@ -37,32 +37,35 @@ module _ {z : Sizes} {s out : List ℕ} {at : ℕ} (a : QueueAsks z s out at) {l
   few : length (from z s l) ≤ z.processes
   few = distinct-fits z.processes (from z s l) queue.distinct queue.below
 
-  pub queue-none : {out' : List ℕ} {r : ℕ} → l ≡ 0 → Put 1 out at (45 ∷ []) out' r → QueuePut z s out at out' r
-  unfolding print_queue ascii
-  queue-none d p =
-      let n : (machine_in z s).run ≡ [] = run ∙ walk_none z.processes (mem_in z s fields.next) l d in
-      record { put = put_as p (rw n) (omega (arith, a.holds.sizes.processes.0)) }
+-- Nobody is in it.
+pub queue-none : {z : Sizes} {s out : List ℕ} {at : ℕ} {out' : List ℕ} {r : ℕ} → QueueAsks z s out at → 0 ≡ mem_in z s fields.run_head 0
+    → Put 1 out at (45 ∷ []) out' r → QueuePut z s out at out' r
+unfolding print_queue ascii
+queue-none {z} {s} a e p =
+    let n : (machine_in z s).run ≡ [] = run a e ∙ walk_none z.processes (mem_in z s fields.next) 0 refl in
+    record { put = put_as p (rw n) (omega (arith, a.holds.sizes.processes.0)) }
 
-  module _ (ne : l ≡ 0 → ⊥) where
-    head : First z s l
-    head = first z s l queue ne
+-- Process i is its first.
+module _ {z : Sizes} {s out : List ℕ} {at : ℕ} (a : QueueAsks z s out at) {i : ℕ} (e : suc i ≡ mem_in z s fields.run_head 0) where
+  head : First z s i
+  head = first z s i (queue a e)
 
-    fit : suc (length (behind z s (l - 1))) ≤ z.processes
-    fit = omega (arith, few, ap length head.split)
+  fit : suc (length (behind z s i)) ≤ z.processes
+  fit = omega (arith, few a e, ap length head.split)
 
-    pub queue-first : PidAsks z s (l - 1) out at
-    queue-first = record { holds = a.holds; index = omega (arith, chain_first queue); room = omega (arith, a.room, fit) }
+  pub queue-first : PidAsks z s i out at
+  queue-first = record { holds = a.holds; index = omega (arith, chain_first (queue a e)); room = omega (arith, a.room, fit) }
 
-    module _ {out₁ : List ℕ} {r₁ : ℕ} (p : PidPut z s (l - 1) out at out₁ r₁) where
-      pub queue-rest : RestAsks z s (l - 1) out₁ r₁
-      queue-rest =
-          record {
-            holds = a.holds;
-            index = omega (arith, chain_first queue);
-            leads = head.leads;
-            room = omega (arith, a.room, fit, p.put.ends, p.put.few, p.put.long);
-          }
+  module _ {out₁ : List ℕ} {r₁ : ℕ} (p : PidPut z s i out at out₁ r₁) where
+    pub queue-rest : RestAsks z s i out₁ r₁
+    queue-rest =
+        record {
+          holds = a.holds;
+          index = omega (arith, chain_first (queue a e));
+          leads = head.leads;
+          room = omega (arith, a.room, fit, p.put.ends, p.put.few, p.put.long);
+        }
 
-      pub queue-some : {out₂ : List ℕ} {r₂ : ℕ} → RestPut z s (l - 1) out₁ r₁ out₂ r₂ → QueuePut z s out at out₂ r₂
-      unfolding print_queue
-      queue-some q = record { put = put_as (put_join p.put q.put) (rw (run ∙ head.split)) (omega (arith, fit)) }
+    pub queue-some : {out₂ : List ℕ} {r₂ : ℕ} → RestPut z s i out₁ r₁ out₂ r₂ → QueuePut z s out at out₂ r₂
+    unfolding print_queue
+    queue-some q = record { put = put_as (put_join p.put q.put) (rw (run a e ∙ head.split)) (omega (arith, fit)) }

@@ -1,5 +1,5 @@
 -- What is put of the run queue behind a process: a comma and a pid for each.
-use Rattle.std.specs.Prelude.{◌≡◌, refl, List, [], ◌∷◌, ◌++◌, ℕ, suc, ◌+◌, ◌-◌, ◌*◌, ◌≤◌, ◌<◌, length}
+use Rattle.std.specs.Prelude.{◌≡◌, refl, List, [], ◌∷◌, ◌++◌, ℕ, suc, ◌+◌, ◌*◌, ◌≤◌, ◌<◌, length}
 use Rattle.std.proofs.Common.{sym, ap, subst, ◌∙◌, append_assoc, append-nil, arith}
 use Rattle.machine.specs.Basics.{ascii}
 use Rattle.machine.specs.Machine.{Machine, pid_of}
@@ -25,22 +25,22 @@ behind z s i = from z s (mem_in z s fields.next i)
 abbrev pub Leads : Sizes → List ℕ → ℕ → Type 0
 Leads z s l = Chain z.processes (mem_in z s fields.next) l (from z s l)
 
--- A link that is not 0 leads to a number and those behind it.
-pub record First (z : Sizes) (s : List ℕ) (l : ℕ) : Type 0 where
-  pub split : from z s l ≡ (l - 1) ∷ behind z s (l - 1)
-  pub leads : Leads z s (mem_in z s fields.next (l - 1))
+-- A link to a number leads to it and those behind it.
+pub record First (z : Sizes) (s : List ℕ) (i : ℕ) : Type 0 where
+  pub split : from z s (suc i) ≡ i ∷ behind z s i
+  pub leads : Leads z s (mem_in z s fields.next i)
 
-pub first : (z : Sizes) (s : List ℕ) (l : ℕ) → Leads z s l → (l ≡ 0 → ⊥) → First z s l
-first z s l c ne = go (from z s l) refl c
+pub first : (z : Sizes) (s : List ℕ) (i : ℕ) → Leads z s (suc i) → First z s i
+first z s i c = go (from z s (suc i)) refl c
   where
-    go : (xs : List ℕ) → from z s l ≡ xs → Chain z.processes (mem_in z s fields.next) l xs → First z s l
-    go [] e k = absurd (ne k.links)
+    go : (xs : List ℕ) → from z s (suc i) ≡ xs → Chain z.processes (mem_in z s fields.next) (suc i) xs → First z s i
+    go [] e k = let q : suc i ≡ 0 = k.links in absurd (omega (arith, q))
     go (j ∷ js) e k =
-        let d : j ≡ l - 1 = omega (arith, k.links.0) in
-        let t : Chain z.processes (mem_in z s fields.next) (mem_in z s fields.next (l - 1)) js =
+        let d : j ≡ i = omega (arith, k.links.0) in
+        let t : Chain z.processes (mem_in z s fields.next) (mem_in z s fields.next i) js =
         subst (λ (i : ℕ). Chain z.processes (mem_in z s fields.next) (mem_in z s fields.next i) js) d (chain-tail k)
         in
-        let w : behind z s (l - 1) ≡ js = chain-walk t in
+        let w : behind z s i ≡ js = chain-walk t in
         record { split = e ∙ rw (d, w); leads = rw w t }
 
 -- There is a process with this number, links lead on from it, and there is room for what they lead to; a comma and a pid
@@ -86,54 +86,57 @@ module _ {z : Sizes} {s : List ℕ} {i : ℕ} {out : List ℕ} {at : ℕ} (a : R
         spells = refl;
       })
 
-  module _ {out₁ : List ℕ} {r₁ l : ℕ} (w : Walking z s i out at out₁ r₁ l) where
-    pub rest_end : l ≡ 0 → RestPut z s i out at out₁ r₁
-    rest_end e =
-        let n : from z s l ≡ [] = walk_none z.processes (mem_in z s fields.next) l e in
-        let q : comma_before (from z s l) (machine_in z s) ≡ [] = rw n (comma_none (machine_in z s)) in
-        record {
-          put =
-              put_as w.put (sym (append-nil w.shown) ∙ ap (λ (x : List ℕ). w.shown ++ x) (sym q) ∙ w.spells)
-              (omega (arith, w.count));
-        }
+  pub rest_end : {out₁ : List ℕ} {r₁ : ℕ} → Walking z s i out at out₁ r₁ 0 → RestPut z s i out at out₁ r₁
+  rest_end w =
+      let n : from z s 0 ≡ [] = walk_none z.processes (mem_in z s fields.next) 0 refl in
+      let q : comma_before (from z s 0) (machine_in z s) ≡ [] = rw n (comma_none (machine_in z s)) in
+      record {
+        put =
+            put_as w.put (sym (append-nil w.shown) ∙ ap (λ (x : List ℕ). w.shown ++ x) (sym q) ∙ w.spells)
+            (omega (arith, w.count));
+      }
 
-    module _ (ne : l ≡ 0 → ⊥) where
-      long : length (from z s l) ≡ suc (length (behind z s (l - 1)))
-      long = ap length (first z s l w.leads ne).split
+  -- One more, j.
+  module _ {out₁ : List ℕ} {r₁ j : ℕ} (w : Walking z s i out at out₁ r₁ (suc j)) where
+    long : length (from z s (suc j)) ≡ suc (length (behind z s j))
+    long = ap length (first z s j w.leads).split
 
-      pub rest_comma : Room 1 out₁ r₁
-      rest_comma = omega (arith, a.room, w.put.ends, w.put.few, w.put.long, w.count, long)
+    pub rest_comma : Room 1 out₁ r₁
+    rest_comma = omega (arith, a.room, w.put.ends, w.put.few, w.put.long, w.count, long)
 
-      module _ {out₂ : List ℕ} {r₂ : ℕ} (p : Put 1 out₁ r₁ (44 ∷ []) out₂ r₂) where
-        pub rest-pid : PidAsks z s (l - 1) out₂ r₂
-        rest-pid =
-            record {
-              holds = a.holds;
-              index = omega (arith, w.range);
-              room = omega (arith, a.room, w.put.ends, w.put.few, w.put.long, w.count, long, p.ends, p.long);
-            }
+    pub rest_index : j < z.processes
+    rest_index = omega (arith, w.range)
 
-        module _ {out₃ : List ℕ} {r₃ l' : ℕ} (q : PidPut z s (l - 1) out₂ r₂ out₃ r₃) (e : l' ≡ mem_in z s fields.next (l - 1)) where
-          pub rest_more : Walking z s i out at out₃ r₃ l'
-          rest_more =
-              let m : Machine = machine_in z s in
-              let f : First z s l = first z s l w.leads ne in
-              let pid : List ℕ = decimal (pid_of m (l - 1)) in
-              rw e
-              (record {
-                many = w.many + 1;
-                shown = w.shown ++ 44 ∷ [] ++ pid;
-                put = put_as (put_join (put_join w.put p) q.put) refl (omega arith);
-                leads = f.leads;
-                range = chain_first f.leads;
-                count = omega (arith, w.count, long);
-                spells =
-                    append_assoc (w.shown ++ 44 ∷ []) pid (comma_before (behind z s (l - 1)) m)
-                    ∙ append_assoc w.shown (44 ∷ []) (pid ++ comma_before (behind z s (l - 1)) m)
-                    ∙ ap (λ (x : List ℕ). w.shown ++ x)
-                    (sym (append_assoc (44 ∷ []) pid (comma_before (behind z s (l - 1)) m)) ∙ sym (comma_one (l - 1) (behind z s (l - 1)) m) ∙ ap (λ (xs : List ℕ). comma_before xs m) (sym f.split))
-                    ∙ w.spells;
-              })
+    module _ {out₂ : List ℕ} {r₂ : ℕ} (p : Put 1 out₁ r₁ (44 ∷ []) out₂ r₂) where
+      pub rest-pid : PidAsks z s j out₂ r₂
+      rest-pid =
+          record {
+            holds = a.holds;
+            index = rest_index;
+            room = omega (arith, a.room, w.put.ends, w.put.few, w.put.long, w.count, long, p.ends, p.long);
+          }
 
-          pub rest-less : length (from z s l') < length (from z s l)
-          rest-less = rw e (omega (arith, long))
+      module _ {out₃ : List ℕ} {r₃ l' : ℕ} (q : PidPut z s j out₂ r₂ out₃ r₃) (e : l' ≡ mem_in z s fields.next j) where
+        pub rest_more : Walking z s i out at out₃ r₃ l'
+        rest_more =
+            let m : Machine = machine_in z s in
+            let f : First z s j = first z s j w.leads in
+            let pid : List ℕ = decimal (pid_of m j) in
+            rw e
+            (record {
+              many = w.many + 1;
+              shown = w.shown ++ 44 ∷ [] ++ pid;
+              put = put_as (put_join (put_join w.put p) q.put) refl (omega arith);
+              leads = f.leads;
+              range = chain_first f.leads;
+              count = omega (arith, w.count, long);
+              spells =
+                  append_assoc (w.shown ++ 44 ∷ []) pid (comma_before (behind z s j) m)
+                  ∙ append_assoc w.shown (44 ∷ []) (pid ++ comma_before (behind z s j) m)
+                  ∙ ap (λ (x : List ℕ). w.shown ++ x)
+                  (sym (append_assoc (44 ∷ []) pid (comma_before (behind z s j) m)) ∙ sym (comma_one j (behind z s j) m) ∙ ap (λ (xs : List ℕ). comma_before xs m) (sym f.split))
+                  ∙ w.spells;
+            })
+
+        pub rest-less : length (from z s l') < length (from z s (suc j))
+        rest-less = rw e (omega (arith, long))

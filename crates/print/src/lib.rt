@@ -1,12 +1,13 @@
 // A line of the listing, written into a lent buffer: step, answer, running pid or 0, run queue or -, asleep, ticks.
 #![tactic(auto)]
 
-ghost use Rattle.std.specs.Prelude.{◌≡◌, ◌∷◌, [], ◌++◌, ◌+◌, length, Result, Ok, Err};
+ghost use Rattle.std.specs.Prelude.{◌≡◌, ◌∷◌, [], ◌++◌, ◌+◌, ◌≤◌, length, Result, Ok, Err};
 ghost use Rattle.machine.specs.Message.{decimal};
 ghost use Rattle.machine.specs.Outcome as machine;
 ghost use Rattle.machine.specs.Print.{print_answer};
 ghost use Rattle.print.specs.Put.{Room, Put};
 ghost use Rattle.print.specs.Width.{Wide};
+ghost use Rattle.print.specs.Decimal.{Fronted};
 ghost use Rattle.print.specs.Reply.{with_text, ReplyAsks, Replied};
 ghost use Rattle.print.specs.Pids.{PidAsks, PidPut, UpAsks, UpPut};
 ghost use Rattle.print.specs.Rest.{RestAsks, RestPut};
@@ -14,9 +15,11 @@ ghost use Rattle.print.specs.Queue.{QueueAsks, QueuePut};
 ghost use Rattle.print.specs.Line.{CountsAsks, CountsPut, FieldsAsks, FieldsPut, LineAsks, Printed};
 
 use outcome::{Refusal, Reply};
-use state::{Index, Sizes};
+use state::{Index, View, field};
 
 // A lent buffer that is written from its front on: so many bytes of it are used.
+// By methods and not by `write!`, which takes text, while a status is any bytes, and answers a Result, while there is always room.
+// Each method asks for the room that it needs: how much that is depends on the call, so no invariant of the type says it.
 #[derive(Drop)]
 pub struct Out<'a> {
     pub bytes: &'a mut [u8],
@@ -37,21 +40,22 @@ fn width(n: u64) -> usize
     k
 }
 
-// Writes the digits of `n` from `at` on, from the last to the first; where they end.
-fn put_digits(out: &mut [u8], at: usize, n: u64) -> usize
-    requires { Room 20 out.old at }
-    ensures { Put 20 out.old at (decimal n) out.new result }
+// Writes the digits of `n` at the front, from the last to the first; how many they are.
+// In place and not by `message::Digits`, whose bytes are then copied: tried, and a number of one or two digits took two to six times as long.
+fn put_digits(out: &mut [u8], n: u64) -> usize
+    requires { 20 ≤ length out.old }
+    ensures { Fronted out.old n out.new result }
 {
-    let end = at + width(n);
-    let mut i = end;
+    let k = width(n);
+    let mut i = k;
     let mut m = n;
     while 10 <= m {
         i -= 1;
-        out[i] = 48 + (m % 10) as u8;
+        out[i] = b'0' + (m % 10) as u8;
         m /= 10;
     }
-    out[at] = 48 + m as u8;
-    end
+    out[0] = b'0' + m as u8;
+    k
 }
 
 impl Out<'_> {
@@ -72,7 +76,7 @@ impl Out<'_> {
         ensures put { Put 20 self.old.bytes.now self.old.used (decimal n) self.new.bytes.now self.new.used }
         ensures name { self.new.bytes.ghost_name ≡ self.old.bytes.ghost_name }
     {
-        self.used = put_digits(self.bytes, self.used, n);
+        self.used += put_digits(&mut self.bytes[self.used..], n);
     }
 
     // Writes a word and a number.
@@ -126,7 +130,7 @@ impl Out<'_> {
             Reply::Pid { pid } => self.number(b"pid ", pid),
             Reply::Run { pid } => self.number(b"run ", pid),
             Reply::RunChild { pid, child, length } => {
-                self.run_child(pid, child, &text[..length as usize])
+                self.run_child(pid, child, &text[..usize::from(length)])
             },
             Reply::Done => self.text(b"done"),
             Reply::Asleep => self.text(b"asleep"),
@@ -137,7 +141,7 @@ impl Out<'_> {
             Reply::Child { pid, length } => self.with_text(
                 b"child ",
                 pid,
-                &text[..length as usize],
+                &text[..usize::from(length)],
             ),
             Reply::Idle => self.text(b"idle"),
             Reply::End => self.text(b"end"),
@@ -152,98 +156,94 @@ impl Out<'_> {
     {
         match reply {
             Ok(answer) => self.answer(answer, text),
-            Err(refusal) => self.number(b"refused ", refusal.number() as u64),
+            Err(refusal) => self.number(b"refused ", u64::from(refusal.number())),
         }
     }
 
     // Writes the pid of process `i`.
-    fn pid(&mut self, s: &[u8], z: Sizes, i: Index)
-        requires { PidAsks z s.now i self.old.bytes.now self.old.used }
-        ensures put { PidPut z s.now i self.old.bytes.now self.old.used self.new.bytes.now self.new.used }
+    fn pid(&mut self, v: &View, i: Index)
+        requires { PidAsks v.now.sizes v.now.bytes.now i self.old.bytes.now self.old.used }
+        ensures put { PidPut v.now.sizes v.now.bytes.now i self.old.bytes.now self.old.used self.new.bytes.now self.new.used }
         ensures name { self.new.bytes.ghost_name ≡ self.old.bytes.ghost_name }
     {
-        self.decimal(state::get64(s, z, state::PROCESS, state::PID, i));
+        self.decimal(v.get(field::PID, i));
     }
 
     // Writes the running pid, or 0.
-    fn up(&mut self, s: &[u8], z: Sizes)
-        requires { UpAsks z s.now self.old.bytes.now self.old.used }
-        ensures put { UpPut z s.now self.old.bytes.now self.old.used self.new.bytes.now self.new.used }
+    fn up(&mut self, v: &View)
+        requires { UpAsks v.now.sizes v.now.bytes.now self.old.bytes.now self.old.used }
+        ensures put { UpPut v.now.sizes v.now.bytes.now self.old.bytes.now self.old.used self.new.bytes.now self.new.used }
         ensures name { self.new.bytes.ghost_name ≡ self.old.bytes.ghost_name }
     {
-        let link = state::get16(s, z, state::HEADER, state::UP, 0);
-        if link == 0 {
-            self.text(b"0");
-        } else {
-            self.pid(s, z, link - 1);
+        match v.get(field::UP, 0) {
+            None => self.text(b"0"),
+            Some(i) => self.pid(v, i),
         }
     }
 
     // Writes the run queue behind process `i`: a comma and a pid for each.
-    fn rest(&mut self, s: &[u8], z: Sizes, i: Index)
-        requires { RestAsks z s.now i self.old.bytes.now self.old.used }
-        ensures put { RestPut z s.now i self.old.bytes.now self.old.used self.new.bytes.now self.new.used }
+    fn rest(&mut self, v: &View, i: Index)
+        requires { RestAsks v.now.sizes v.now.bytes.now i self.old.bytes.now self.old.used }
+        ensures put { RestPut v.now.sizes v.now.bytes.now i self.old.bytes.now self.old.used self.new.bytes.now self.new.used }
         ensures name { self.new.bytes.ghost_name ≡ self.old.bytes.ghost_name }
     {
-        let mut link = state::get16(s, z, state::PROCESS, state::NEXT, i);
-        while link != 0 {
+        let mut at = v.get(field::NEXT, i);
+        while let Some(j) = at {
             self.text(b",");
-            self.pid(s, z, link - 1);
-            link = state::get16(s, z, state::PROCESS, state::NEXT, link - 1);
+            self.pid(v, j);
+            at = v.get(field::NEXT, j);
         }
     }
 
     // Writes the run queue, or -.
-    fn queue(&mut self, s: &[u8], z: Sizes)
-        requires { QueueAsks z s.now self.old.bytes.now self.old.used }
-        ensures put { QueuePut z s.now self.old.bytes.now self.old.used self.new.bytes.now self.new.used }
+    fn queue(&mut self, v: &View)
+        requires { QueueAsks v.now.sizes v.now.bytes.now self.old.bytes.now self.old.used }
+        ensures put { QueuePut v.now.sizes v.now.bytes.now self.old.bytes.now self.old.used self.new.bytes.now self.new.used }
         ensures name { self.new.bytes.ghost_name ≡ self.old.bytes.ghost_name }
     {
-        let link = state::get16(s, z, state::HEADER, state::RUN_HEAD, 0);
-        if link == 0 {
-            self.text(b"-");
-        } else {
-            self.pid(s, z, link - 1);
-            self.rest(s, z, link - 1);
+        match v.get(field::RUN_HEAD, 0) {
+            None => self.text(b"-"),
+            Some(i) => {
+                self.pid(v, i);
+                self.rest(v, i);
+            },
         }
     }
 
     // Writes how many are asleep, and the ticks.
-    fn counts(&mut self, s: &[u8], z: Sizes)
-        requires { CountsAsks z s.now self.old.bytes.now self.old.used }
-        ensures put { CountsPut z s.now self.old.bytes.now self.old.used self.new.bytes.now self.new.used }
+    fn counts(&mut self, v: &View)
+        requires { CountsAsks v.now.sizes v.now.bytes.now self.old.bytes.now self.old.used }
+        ensures put { CountsPut v.now.sizes v.now.bytes.now self.old.bytes.now self.old.used self.new.bytes.now self.new.used }
         ensures name { self.new.bytes.ghost_name ≡ self.old.bytes.ghost_name }
     {
-        let asleep = state::get16(s, z, state::HEADER, state::ASLEEP_COUNT, 0);
-        let ticks = state::get64(s, z, state::HEADER, state::TICKS, 0);
-        self.decimal(asleep as u64);
-        self.number(b";", ticks);
+        self.decimal(u64::from(v.get(field::ASLEEP_COUNT, 0)));
+        self.number(b";", v.get(field::TICKS, 0));
         self.text(b"\n");
     }
 
     // Writes who runs, the run queue, how many are asleep, and the ticks.
-    fn fields(&mut self, s: &[u8], z: Sizes)
-        requires { FieldsAsks z s.now self.old.bytes.now self.old.used }
-        ensures put { FieldsPut z s.now self.old.bytes.now self.old.used self.new.bytes.now self.new.used }
+    fn fields(&mut self, v: &View)
+        requires { FieldsAsks v.now.sizes v.now.bytes.now self.old.bytes.now self.old.used }
+        ensures put { FieldsPut v.now.sizes v.now.bytes.now self.old.bytes.now self.old.used self.new.bytes.now self.new.used }
         ensures name { self.new.bytes.ghost_name ≡ self.old.bytes.ghost_name }
     {
-        self.up(s, z);
+        self.up(v);
         self.text(b";");
-        self.queue(s, z);
+        self.queue(v);
         self.text(b";");
-        self.counts(s, z);
+        self.counts(v);
     }
 
     // Writes the line of step `n`, which is answered by `reply`. `text` is the status of an exit, and the message buffer of any other answer.
-    pub fn line(&mut self, n: u64, reply: Result<Reply, Refusal>, text: &[u8], s: &[u8], z: Sizes)
-        requires { LineAsks z s.now reply text.now self.old.bytes.now self.old.used }
-        ensures put { Printed z s.now n reply text.now self.old.bytes.now self.old.used self.new.bytes.now self.new.used }
+    pub fn line(&mut self, n: u64, reply: Result<Reply, Refusal>, text: &[u8], v: &View)
+        requires { LineAsks v.now.sizes v.now.bytes.now reply text.now self.old.bytes.now self.old.used }
+        ensures put { Printed v.now.sizes v.now.bytes.now n reply text.now self.old.bytes.now self.old.used self.new.bytes.now self.new.used }
         ensures name { self.new.bytes.ghost_name ≡ self.old.bytes.ghost_name }
     {
         self.decimal(n);
         self.text(b";");
         self.reply(reply, text);
         self.text(b";");
-        self.fields(s, z);
+        self.fields(v);
     }
 }

@@ -1,7 +1,6 @@
 -- A step that tells no message: what it ensures, and that a field out of range meets 2.
-use Rattle.std.specs.Prelude.{◌≡◌, refl, Bool, true, false, List, [], ℕ, ◌≤◌, eqb, Result, Ok, Err}
-use Rattle.std.proofs.Common.{sym, subst, arith, eqb-true}
-use Rattle.std.proofs.lemmas.Bool.{eqb-false}
+use Rattle.std.specs.Prelude.{◌≡◌, refl, Bool, false, List, [], ℕ, Result, Err}
+use Rattle.std.proofs.Common.{sym, subst}
 use Rattle.clock.specs.declared.Duration.{Duration}
 use Rattle.machine.specs.Step.{Body, start, rfork, sleep, tsleep, wakeup, qlock, canqlock, qunlock, cond, tadd, tdel}
 use Rattle.machine.specs.Table.{in_range}
@@ -17,7 +16,6 @@ use Rattle.outcome.specs.Stepped.{Well, Stepped, left_bytes}
 use Rattle.outcome.specs.Laws.{stepped-refused}
 use Rattle.outcome.specs.Took.{Took}
 use Rattle.outcome.specs.Refusals.{step, refused-range}
-use Rattle.lists.specs.Lists.{bit}
 use Rattle.proc_wake.specs.Steps.{CondTook}
 use Rattle.proc_sleep.specs.Sleep.{SleepTook}
 use Rattle.proc_sleep.specs.Qlock.{QlockTook}
@@ -29,7 +27,7 @@ use Rattle.proc_start.specs.declared.Making.{Making}
 use Rattle.proc_start.specs.Making.{number}
 use Rattle.proc_start.specs.Start.{Started}
 use Rattle.proc_fork.specs.Make.{RforkTook}
-use Rattle.proc.specs.Ranges.{Within, IsKernel, Lasting}
+use Rattle.proc.specs.Ranges.{Within, Truth, IsKernel, Lasting}
 
 -- The step with this body, marked or not, took the state s to s' with the result r, and told no message.
 pub record Plain (z : Sizes) (s s' : List ℕ) (k : Bool) (b : Body) (r : Result Reply Refusal) : Type 0 where
@@ -43,33 +41,21 @@ outside {z} {s} {k} {b} w d o =
     subst (λ (x : Refusal). Plain z s s k b (Err x)) (sym d)
     (record { stepped = stepped-refused (refused-range (machine_in z s) k b o) w.holds refl refl })
 
+pub outside-took
+    : {z : Sizes} {s : List ℕ} {b : Body} {e : Refusal} → Well z s → e ≡ NoSuchStep → in_range (sizes_in z) b ≡ false → Took z s s b (Err e)
+outside-took w d o = record { stepped = λ k. (outside {k = k} w d o).stepped }
+
 -- A step that asks nothing of the mark.
 pub took-plain : {z : Sizes} {s s' : List ℕ} {k : Bool} {b : Body} {r : Result Reply Refusal} → Took z s s' b r → Plain z s s' k b r
 took-plain {k = k} t = record { stepped = t.stepped k }
-
--- The value of a condition as a number.
-bit_is : (v : ℕ) → v ≤ 1 → bit (eqb v 1) ≡ v
-bit_is v h = go (eqb v 1) refl
-  where
-    go : (b : Bool) → eqb v 1 ≡ b → bit b ≡ v
-    go true e = sym (eqb-true v 1 e)
-    go false e = omega (arith, eqb-false v 1 e, h)
-
-cond-plain
-    : {z : Sizes} {s s' : List ℕ} {k : Bool} {c v : ℕ} {r : Result Reply Refusal}
-    → v ≤ 1
-    → CondTook z s s' c (eqb v 1) r
-    → Plain z s s' k (cond c v) r
-cond-plain {z} {s} {s'} {k} {c} {v} {r} h t =
-    record { stepped = subst (λ (x : ℕ). Stepped z s s' (step k (cond c x)) [] r) (bit_is v h) (t.stepped k) }
 
 -- A step whose fields were found in range: what it ensures of them it ensures of the numbers that stood there.
 module _ {z : Sizes} {s s' : List ℕ} {k : Bool} {a : Result Reply Refusal} where
   pub start-plain : (how : Making) {M : ℕ} → number how ≡ M → Started z s s' k (number how) a → Plain z s s' k (start M) a
   start-plain how {M} e t = subst (λ (x : ℕ). Plain z s s' k (start x) a) e (record { stepped = t.stepped })
 
-  pub rfork-plain : (how : Making) {F M : ℕ} → number how ≡ M → RforkTook z s s' k F (number how) a → Plain z s s' k (rfork F M) a
-  rfork-plain how {F} {M} e t = subst (λ (x : ℕ). Plain z s s' k (rfork F x) a) e (record { stepped = t.stepped })
+  pub rfork-plain : (how : Making) {F M f : ℕ} → f ≡ F → number how ≡ M → RforkTook z s s' k f (number how) a → Plain z s s' k (rfork F M) a
+  rfork-plain how q e t = record { stepped = rw (← q, ← e) t.stepped }
 
   pub sleep-plain : {R C r c : ℕ} → Within z.rendez R r → Within 256 C c → SleepTook z s s' k r c a → Plain z s s' k (sleep R C) a
   sleep-plain x y t = record { stepped = rw (← x.same, ← y.same) t.stepped }
@@ -83,33 +69,35 @@ module _ {z : Sizes} {s s' : List ℕ} {k : Bool} {a : Result Reply Refusal} whe
       → Plain z s s' k (tsleep R C S N NOW) a
   tsleep-plain x y l t = record { stepped = rw (← x.same, ← y.same, ← l.secs, ← l.nanos) t.stepped }
 
-  pub wakeup-plain : {R r : ℕ} → Within z.rendez R r → Took z s s' (wakeup r) a → Plain z s s' k (wakeup R) a
-  wakeup-plain x t = record { stepped = rw (← x.same) (t.stepped k) }
-
   pub qlock-plain : {Q q : ℕ} → Within z.locks Q q → QlockTook z s s' k q a → Plain z s s' k (qlock Q) a
   qlock-plain x t = record { stepped = rw (← x.same) t.stepped }
 
-  pub canqlock-plain : {Q q : ℕ} → Within z.locks Q q → Took z s s' (canqlock q) a → Plain z s s' k (canqlock Q) a
-  canqlock-plain x t = record { stepped = rw (← x.same) (t.stepped k) }
+-- The same of a step that asks nothing of the mark.
+module _ {z : Sizes} {s s' : List ℕ} {a : Result Reply Refusal} where
+  pub wakeup-took : {R r : ℕ} → Within z.rendez R r → Took z s s' (wakeup r) a → Took z s s' (wakeup R) a
+  wakeup-took x t = record { stepped = λ k. rw (← x.same) (t.stepped k) }
 
-  pub qunlock-plain : {Q q : ℕ} → Within z.locks Q q → Took z s s' (qunlock q) a → Plain z s s' k (qunlock Q) a
-  qunlock-plain x t = record { stepped = rw (← x.same) (t.stepped k) }
+  pub canqlock-took : {Q q : ℕ} → Within z.locks Q q → Took z s s' (canqlock q) a → Took z s s' (canqlock Q) a
+  canqlock-took x t = record { stepped = λ k. rw (← x.same) (t.stepped k) }
 
-  pub cond-within : {C c v : ℕ} → Within 256 C c → v ≤ 1 → CondTook z s s' c (eqb v 1) a → Plain z s s' k (cond C v) a
-  cond-within {v = v} x h t = subst (λ (y : ℕ). Plain z s s' k (cond y v) a) x.same (cond-plain h t)
+  pub qunlock-took : {Q q : ℕ} → Within z.locks Q q → Took z s s' (qunlock q) a → Took z s s' (qunlock Q) a
+  qunlock-took x t = record { stepped = λ k. rw (← x.same) (t.stepped k) }
 
-  pub tadd-plain
+  pub cond-took : {C c V : ℕ} {v : Bool} → Within 256 C c → Truth V v → CondTook z s s' c v a → Took z s s' (cond C V) a
+  cond-took x y t = record { stepped = λ k. rw (← x.same, ← y.same) (t.stepped k) }
+
+  pub tadd-took
       : {T M S N R NOW t r : ℕ} (kind : Kind) {d : Duration}
       → IsKernel z.timers T t
       → kind_number kind ≡ M
       → Lasting S N d
       → Within z.rendez R r
       → Tadded z s s' t (kind_number kind) d r NOW a
-      → Plain z s s' k (tadd T M S N R NOW) a
-  tadd-plain kind x m l y t = record { stepped = rw (← x.same, ← m, ← l.secs, ← l.nanos, ← y.same) (t.stepped k) }
+      → Took z s s' (tadd T M S N R NOW) a
+  tadd-took kind x m l y t = record { stepped = λ k. rw (← x.same, ← m, ← l.secs, ← l.nanos, ← y.same) (t.stepped k) }
 
-  pub tdel-plain : {T t : ℕ} → IsKernel z.timers T t → Took z s s' (tdel t) a → Plain z s s' k (tdel T) a
-  tdel-plain x t = record { stepped = rw (← x.same) (t.stepped k) }
+  pub tdel-took : {T t : ℕ} → IsKernel z.timers T t → Took z s s' (tdel t) a → Took z s s' (tdel T) a
+  tdel-took x t = record { stepped = λ k. rw (← x.same) (t.stepped k) }
 
 pub tadd-asks
     : {z : Sizes} {s : List ℕ} {T S N R t r : ℕ} {d : Duration}

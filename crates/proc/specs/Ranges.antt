@@ -2,6 +2,7 @@
 use Rattle.std.specs.Prelude.{◌≡◌, ◌⊎◌, Bool, true, false, ℕ, ◌≤◌, ◌<◌}
 use Rattle.std.proofs.Common.{sym, ◌∙◌, arith, inl, inr, ltb-true, ltb-false}
 use Rattle.std.proofs.Math.Path.{refl}
+use Rattle.lists.specs.Lists.{bit}
 use Rattle.clock.specs.Counts.{valid_duration}
 use Rattle.clock.specs.declared.Duration.{Duration}
 use Rattle.outcome.specs.declared.Refusal.{Refusal}
@@ -16,6 +17,10 @@ pub record Within (n field i : ℕ) : Type 0 where
 pub record Beyond (n field : ℕ) (e : Refusal) : Type 0 where
   pub cause : e ≡ NoSuchStep
   pub high : n ≤ field
+
+-- The field is the value of a condition.
+pub record Truth (field : ℕ) (v : Bool) : Type 0 where
+  pub same : bit v ≡ field
 
 -- It is kernel timer t of n, and not timer 0.
 pub record IsKernel (n field t : ℕ) : Type 0 where

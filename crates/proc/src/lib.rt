@@ -1,4 +1,6 @@
 // Any one of the nineteen steps, on a state that is known to be well formed.
+// `Well` stays a clause: a step breaks it midway, and a type's invariant holds at every store.
+// `in_interrupt` goes beside the state: it is the step's mark, and only the steps that ask for it take it.
 #![tactic(auto)]
 
 ghost use Rattle.std.specs.Prelude.{IfOk, IfErr};
@@ -7,7 +9,8 @@ ghost use Rattle.machine.specs.Step.{start, rfork, name, sleep, wakeup, qlock, c
 ghost use Rattle.decode.specs.Means.{tsleep_of, tadd_of};
 ghost use Rattle.state.specs.Lent.{Same};
 ghost use Rattle.outcome.specs.Stepped.{Well};
-ghost use Rattle.proc.specs.Ranges.{Within, Beyond, IsKernel, NotKernel, Lasting};
+ghost use Rattle.outcome.specs.Took.{Took};
+ghost use Rattle.proc.specs.Ranges.{Within, Beyond, Truth, IsKernel, NotKernel, Lasting};
 ghost use Rattle.proc.specs.Plain.{Plain};
 ghost use Rattle.proc.specs.Arms.{CallAsks, CallTook};
 ghost use Rattle.proc.specs.Taken.{Taken};
@@ -17,7 +20,7 @@ use decode::{Call, TaddFields, TsleepFields};
 use outcome::{Refusal, Reply};
 use proc_start::Making;
 use proc_timer::Kind;
-use state::{Index, Sizes, State};
+use state::{Index, State};
 
 // The shortest message buffer that a step takes.
 const SHORTEST: usize = 127;
@@ -27,10 +30,9 @@ fn below(field: u64, n: u16) -> Result<Index, Refusal>
     ensures ok { IfOk result (Within n field) }
     ensures err { IfErr result (Beyond n field) }
 {
-    if field < n as u64 {
-        Ok(field as Index)
-    } else {
-        Err(Refusal::NoSuchStep)
+    match Index::try_from(field) {
+        Ok(i) if i < n => Ok(i),
+        _ => Err(Refusal::NoSuchStep),
     }
 }
 
@@ -50,10 +52,18 @@ fn condition_of(field: u64) -> Result<u8, Refusal>
     ensures ok { IfOk result (Within 256 field) }
     ensures err { IfErr result (Beyond 256 field) }
 {
-    if field < 256 {
-        Ok(field as u8)
-    } else {
-        Err(Refusal::NoSuchStep)
+    u8::try_from(field).map_err(|_| Refusal::NoSuchStep)
+}
+
+// What a condition becomes: 0 false, 1 true.
+fn truth_of(field: u64) -> Result<bool, Refusal>
+    ensures ok { IfOk result (Truth field) }
+    ensures err { IfErr result (Beyond 2 field) }
+{
+    match field {
+        0 => Ok(false),
+        1 => Ok(true),
+        _ => Err(Refusal::NoSuchStep),
     }
 }
 
@@ -92,11 +102,11 @@ fn rfork(s: &mut State, in_interrupt: bool, flags: u64, how: u64) -> Result<Repl
     ensures same { Same s.old s.new }
     ensures done { Plain s.old.sizes s.old.bytes.now s.new.bytes.now in_interrupt (rfork flags how) result }
 {
-    if flags > 4_294_967_295 {
+    let Ok(flags) = u32::try_from(flags) else {
         return Err(Refusal::NoSuchStep);
-    }
+    };
     let how = Making::try_from(how)?;
-    proc_fork::rfork(s, in_interrupt, flags as u32, how)
+    proc_fork::rfork(s, in_interrupt, flags, how)
 }
 
 // The running process gets a name.
@@ -135,10 +145,10 @@ fn tsleep(s: &mut State, in_interrupt: bool, asked: TsleepFields) -> Result<Repl
 }
 
 // Wakes whoever sleeps on a Rendez.
-fn wakeup(s: &mut State, in_interrupt: bool, rendez: u64) -> Result<Reply, Refusal>
+fn wakeup(s: &mut State, rendez: u64) -> Result<Reply, Refusal>
     requires { Well s.old.sizes s.old.bytes.now }
     ensures same { Same s.old s.new }
-    ensures done { Plain s.old.sizes s.old.bytes.now s.new.bytes.now in_interrupt (wakeup rendez) result }
+    ensures done { Took s.old.sizes s.old.bytes.now s.new.bytes.now (wakeup rendez) result }
 {
     let r = below(rendez, s.sizes.rendez)?;
     Ok(proc_wake::wakeup(s, r))
@@ -155,43 +165,41 @@ fn qlock(s: &mut State, in_interrupt: bool, lock: u64) -> Result<Reply, Refusal>
 }
 
 // Takes a lock where it is free.
-fn canqlock(s: &mut State, in_interrupt: bool, lock: u64) -> Result<Reply, Refusal>
+fn canqlock(s: &mut State, lock: u64) -> Result<Reply, Refusal>
     requires { Well s.old.sizes s.old.bytes.now }
     ensures same { Same s.old s.new }
-    ensures done { Plain s.old.sizes s.old.bytes.now s.new.bytes.now in_interrupt (canqlock lock) result }
+    ensures done { Took s.old.sizes s.old.bytes.now s.new.bytes.now (canqlock lock) result }
 {
     let q = below(lock, s.sizes.locks)?;
     Ok(proc_wake::canqlock(s, q))
 }
 
 // Hands a lock over to its first waiter, or frees it.
-fn qunlock(s: &mut State, in_interrupt: bool, lock: u64) -> Result<Reply, Refusal>
+fn qunlock(s: &mut State, lock: u64) -> Result<Reply, Refusal>
     requires { Well s.old.sizes s.old.bytes.now }
     ensures same { Same s.old s.new }
-    ensures done { Plain s.old.sizes s.old.bytes.now s.new.bytes.now in_interrupt (qunlock lock) result }
+    ensures done { Took s.old.sizes s.old.bytes.now s.new.bytes.now (qunlock lock) result }
 {
     let q = below(lock, s.sizes.locks)?;
     proc_wake::qunlock(s, q)
 }
 
 // Sets a condition.
-fn cond(s: &mut State, in_interrupt: bool, condition: u64, value: u64) -> Result<Reply, Refusal>
+fn cond(s: &mut State, condition: u64, value: u64) -> Result<Reply, Refusal>
     requires { Well s.old.sizes s.old.bytes.now }
     ensures same { Same s.old s.new }
-    ensures done { Plain s.old.sizes s.old.bytes.now s.new.bytes.now in_interrupt (cond condition value) result }
+    ensures done { Took s.old.sizes s.old.bytes.now s.new.bytes.now (cond condition value) result }
 {
     let c = condition_of(condition)?;
-    if value > 1 {
-        return Err(Refusal::NoSuchStep);
-    }
-    Ok(proc_wake::cond(s, c, value == 1))
+    let v = truth_of(value)?;
+    Ok(proc_wake::cond(s, c, v))
 }
 
 // Adds a kernel timer.
-fn tadd(s: &mut State, in_interrupt: bool, asked: TaddFields) -> Result<Reply, Refusal>
+fn tadd(s: &mut State, asked: TaddFields) -> Result<Reply, Refusal>
     requires { Well s.old.sizes s.old.bytes.now }
     ensures same { Same s.old s.new }
-    ensures done { Plain s.old.sizes s.old.bytes.now s.new.bytes.now in_interrupt (tadd_of asked) result }
+    ensures done { Took s.old.sizes s.old.bytes.now s.new.bytes.now (tadd_of asked) result }
 {
     let t = kernel_timer(asked.timer, s.sizes.timers)?;
     let kind = Kind::try_from(asked.kind)?;
@@ -201,75 +209,54 @@ fn tadd(s: &mut State, in_interrupt: bool, asked: TaddFields) -> Result<Reply, R
 }
 
 // Takes a kernel timer off the queue.
-fn tdel(s: &mut State, in_interrupt: bool, timer: u64) -> Result<Reply, Refusal>
+fn tdel(s: &mut State, timer: u64) -> Result<Reply, Refusal>
     requires { Well s.old.sizes s.old.bytes.now }
     ensures same { Same s.old s.new }
-    ensures done { Plain s.old.sizes s.old.bytes.now s.new.bytes.now in_interrupt (tdel timer) result }
+    ensures done { Took s.old.sizes s.old.bytes.now s.new.bytes.now (tdel timer) result }
 {
     let t = kernel_timer(timer, s.sizes.timers)?;
     Ok(proc_timer::tdel(s, t))
 }
 
-// The step that the bytes `b` were found to ask, on a state that is lent whole.
-fn take_on(
+// Takes a step that was read from bytes. A message that it tells is at the front of `message`.
+pub fn take_call(
     s: &mut State,
     in_interrupt: bool,
     call: Call,
-    b: &[u8],
     message: &mut [u8],
 ) -> Result<Reply, Refusal>
-    requires { CallAsks s.old.sizes s.old.bytes.now call b.now message.old }
+    requires { CallAsks s.old.sizes s.old.bytes.now message.old }
     ensures same { Same s.old s.new }
-    ensures done { CallTook s.old.sizes s.old.bytes.now s.new.bytes.now in_interrupt call b.now message.old message.new result }
+    ensures done { CallTook s.old.sizes s.old.bytes.now s.new.bytes.now in_interrupt call.entry message.old message.new result }
 {
     match call {
         Call::Start { how } => start(s, in_interrupt, how),
         Call::Rfork { flags, how } => rfork(s, in_interrupt, flags, how),
-        Call::Name { length: _ } => name(s, in_interrupt, &b[6..]),
+        Call::Name { bytes } => name(s, in_interrupt, bytes),
         Call::Sched => proc_sched::sched(s, in_interrupt, message),
         Call::Yield => proc_sleep::yield_now(s, in_interrupt),
         Call::Sleep { rendez, condition } => sleep(s, in_interrupt, rendez, condition),
         Call::Tsleep { asked } => tsleep(s, in_interrupt, asked),
-        Call::Wakeup { rendez } => wakeup(s, in_interrupt, rendez),
+        Call::Wakeup { rendez } => wakeup(s, rendez),
         Call::Qlock { lock } => qlock(s, in_interrupt, lock),
-        Call::Canqlock { lock } => canqlock(s, in_interrupt, lock),
-        Call::Qunlock { lock } => qunlock(s, in_interrupt, lock),
-        Call::Cond { condition, value } => cond(s, in_interrupt, condition, value),
+        Call::Canqlock { lock } => canqlock(s, lock),
+        Call::Qunlock { lock } => qunlock(s, lock),
+        Call::Cond { condition, value } => cond(s, condition, value),
         Call::Clock { reading } => proc_timer::clock(s, reading),
-        Call::Tadd { asked } => tadd(s, in_interrupt, asked),
-        Call::Tdel { timer } => tdel(s, in_interrupt, timer),
+        Call::Tadd { asked } => tadd(s, asked),
+        Call::Tdel { timer } => tdel(s, timer),
         Call::Intr { reading } => proc_intr::intr(s, reading),
         Call::Due => Ok(proc_wake::due(&s.view())),
-        Call::Exit { length: _ } => proc_exit::exit(s, in_interrupt, &b[6..]),
+        Call::Exit { status } => proc_exit::exit(s, in_interrupt, status),
         Call::Wait => proc_wait::wait(s, in_interrupt, message),
     }
 }
 
-// The same for callers that hold the bytes and the sizes apart.
-pub fn take_call(
-    s: &mut [u8],
-    z: Sizes,
-    in_interrupt: bool,
-    call: Call,
-    b: &[u8],
-    message: &mut [u8],
-) -> Result<Reply, Refusal>
-    requires { CallAsks z s.old call b.now message.old }
-    ensures { CallTook z s.old s.new in_interrupt call b.now message.old message.new result }
-{
-    take_on(
-        &mut State { bytes: s, sizes: z },
-        in_interrupt,
-        call,
-        b,
-        message,
-    )
-}
-
 // Takes the step that the bytes `b` are. A message that it tells is at the front of `message`.
-pub fn take(s: &mut [u8], z: Sizes, b: &[u8], message: &mut [u8]) -> Result<Reply, Refusal>
-    requires { Well z s.old }
-    ensures { Taken z s.old s.new (decode b.now) message.old message.new result }
+pub fn take(s: &mut State, b: &[u8], message: &mut [u8]) -> Result<Reply, Refusal>
+    requires { Well s.old.sizes s.old.bytes.now }
+    ensures same { Same s.old s.new }
+    ensures done { Taken s.old.sizes s.old.bytes.now s.new.bytes.now (decode b.now) message.old message.new result }
 {
     if message.len() < SHORTEST {
         return Err(Refusal::NoSuchStep);
@@ -277,5 +264,5 @@ pub fn take(s: &mut [u8], z: Sizes, b: &[u8], message: &mut [u8]) -> Result<Repl
     let Some(step) = decode::decode(b) else {
         return Err(Refusal::NoSuchStep);
     };
-    take_call(s, z, step.marked, step.call, b, message)
+    take_call(s, step.marked, step.call, message)
 }

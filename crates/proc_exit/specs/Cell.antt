@@ -1,8 +1,9 @@
 -- Whether a message is due at an exit and no cell is free for it, the cells of the process that goes being counted as free.
-use Rattle.std.specs.Prelude.{◌≡◌, refl, Bool, true, false, ◌&&◌, Option, None, Some, is_some, List, [], ◌∷◌, ℕ, suc, ◌-◌, ◌≤◌, ◌<◌, eqb, length}
+use Rattle.std.specs.Prelude.{◌≡◌, refl, Bool, true, false, Option, is_some, List, [], ◌∷◌, ℕ, suc, ◌-◌, ◌≤◌, ◌<◌, eqb, length}
 use Rattle.std.proofs.Common.{sym, ap, ◌∙◌, arith, lit<, eq-eqb, ne_eqb, lt-ltb, le-ltb}
 use Rattle.std.proofs.Math.Option.{none, some}
-use Rattle.memory.specs.Link.{link}
+use Rattle.std.proofs.lemmas.Bool.{and_right}
+use Rattle.memory.specs.Link.{link, link_there, link_nowhere}
 use Rattle.machine.specs.Machine.{Exit, process}
 use Rattle.machine.specs.Exits.{found, free_cell, has_room, message_due}
 use Rattle.layout.specs.Table.{slot}
@@ -13,7 +14,6 @@ use Rattle.state.specs.Places.{mem_in, ReachIn}
 use Rattle.state.specs.WellFormed.{Used}
 use Rattle.state.specs.declared.Sizes.{Sizes}
 use Rattle.exact.specs.Bounds.{inside}
-use Rattle.exact.specs.Sums.{true-false}
 use Rattle.holds.specs.Whole.{holds-bounds}
 use Rattle.holds.specs.Did.{machine_in}
 use Rattle.free.specs.Asks.{CellsIn, cells_in}
@@ -22,7 +22,7 @@ use Rattle.ages.specs.Parent.{ParentFound}
 use Rattle.outcome.specs.Stepped.{Well}
 use Rattle.outcome.specs.RefusalsExit.{no_cell}
 use Rattle.proc_exit.specs.FreeCells.{cell_same, still-free, own-free, due-none, due-some}
-use Rattle.proc_exit.specs.Tell.{exits-number}
+use Rattle.waitq.specs.Marks.{exits-number}
 
 -- The living process i may have a parent, the link says which.
 pub record NoCellAsks (z : Sizes) (s : List ℕ) (i l : ℕ) : Type 0 where
@@ -33,19 +33,6 @@ pub record NoCellAsks (z : Sizes) (s : List ℕ) (i l : ℕ) : Type 0 where
 -- The answer is the table's.
 pub record NoCellIs (z : Sizes) (s : List ℕ) (i : ℕ) (r : Bool) : Type 0 where
   pub answer : r ≡ no_cell (machine_in z s) i
-
-and_false : (b : Bool) → false ≡ (b && false)
-and_false true = refl
-and_false false = refl
-
--- A cell that is found has a number.
-cell-there : (o : Option ℕ) → is_some o ≡ true → link o ≡ 0 → ⊥
-cell-there None e d = true-false (sym e)
-cell-there (Some c) e d = omega (arith, d)
-
-no_cell-link : (o : Option ℕ) → is_some o ≡ false → link o ≡ 0
-no_cell-link None e = refl
-no_cell-link (Some c) e = absurd (true-false e)
 
 module _ {z : Sizes} {s : List ℕ} {i l : ℕ} (a : NoCellAsks z s i l) where
   low : i < z.processes
@@ -96,10 +83,10 @@ module _ {z : Sizes} {s : List ℕ} {i j : ℕ} (a : NoCellAsks z s i (suc j)) w
     module _ (o : Option ℕ) (f : CellFound z s (link o)) where
       pub no_cell-free : k < 128 → is_some o ≡ true → NoCellIs z s i false
       no_cell-free l t =
-          let x : link o ≡ suc (link o - 1) = omega (arith, cell-there o t) in
+          let x : link o ≡ suc (link o - 1) = omega (arith, link_there o t) in
           let q : free_cell (machine_in z s) ≡ some (link o - 1) = sym (f.machine a.well.holds.keeps.cells) ∙ ap link_to x in
           record {
-            answer = rw (still-free (machine_in z s) i (there a) (link o - 1) q) (and_false (message_due i (machine_in z s)));
+            answer = rw (still-free (machine_in z s) i (there a) (link o - 1) q) (sym (and_right (message_due i (machine_in z s)) false refl));
           }
 
       -- No cell is free now: the answer is whether it has none of its own.
@@ -110,7 +97,7 @@ module _ {z : Sizes} {s : List ℕ} {i j : ℕ} (a : NoCellAsks z s i (suc j)) w
           size = exits-number a.well.holds i a.used ∙ sym q
 
           none_now : free_cell (machine_in z s) ≡ none
-          none_now = sym (f.machine a.well.holds.keeps.cells) ∙ ap link_to (no_cell-link o e)
+          none_now = sym (f.machine a.well.holds.keeps.cells) ∙ ap link_to (link_nowhere o e)
 
           go : (xs : List Exit) → (process (machine_in z s) i).exits ≡ xs → NoCellIs z s i (eqb n 0)
           go [] x =
@@ -121,5 +108,5 @@ module _ {z : Sizes} {s : List ℕ} {i j : ℕ} (a : NoCellAsks z s i (suc j)) w
               record {
                 answer =
                     ne_eqb n 0 (λ v. omega (arith, v, w))
-                    ∙ rw (own-free (machine_in z s) i (there a) a.well.good y ys x) (and_false (message_due i (machine_in z s)));
+                    ∙ rw (own-free (machine_in z s) i (there a) a.well.good y ys x) (sym (and_right (message_due i (machine_in z s)) false refl));
               }

@@ -27,10 +27,11 @@ use Rattle.holds.specs.Leftover.{alive-kin}
 use Rattle.holds.specs.Touched.{Spares, spares-gone}
 use Rattle.ages.specs.Found.{found-named}
 use Rattle.ages.specs.Parent.{ParentFound}
+use Rattle.waitq.specs.Marks.{exits-number}
 use Rattle.outcome.specs.Stepped.{Well}
 use Rattle.outcome.specs.RefusalsExit.{no_cell}
 use Rattle.proc_exit.specs.Leave.{LeaveAsks, Left, leave-used}
-use Rattle.proc_exit.specs.Tell.{TellAsks, ToldParent, exits-number}
+use Rattle.proc_exit.specs.Tell.{TellAsks, ToldParent}
 use Rattle.proc_exit.specs.FreeCells.{due-some}
 use Rattle.proc_exit.specs.Told.{told-nobody, others, counted}
 

@@ -1,11 +1,11 @@
 -- Which cells are free once a process has gone, and whether a message is due.
-use Rattle.std.specs.Prelude.{◌≡◌, Bool, true, List, [], ◌∷◌, ◌++◌, map, ℕ, zero, suc, ◌+◌, ◌≤◌, ◌<◌, eqb, length, get_or, set}
+use Rattle.std.specs.Prelude.{◌≡◌, true, List, [], ◌∷◌, ◌++◌, map, ℕ, zero, suc, ◌+◌, ◌≤◌, ◌<◌, length, get_or, set}
 use Rattle.std.proofs.Math.Path.{refl, ap}
 use Rattle.std.proofs.Common.{sym, eq-eqb, arith}
 use Rattle.std.proofs.Math.Bool.{false, not}
 use Rattle.std.proofs.Math.Option.{Option, none, some}
 use Rattle.std.proofs.lemmas.Bool.{not-true, not-false}
-use Rattle.lists.specs.Lists.{bit, each-get, count_concat_set, highest-some, highest-none, elem-none}
+use Rattle.lists.specs.Lists.{bit, each-get, count_concat_set, highest-some, highest-none, elem-some, elem-none}
 use Rattle.machine.specs.Basics.{is_none, elem, count, concat_map}
 use Rattle.machine.specs.Machine.{Machine, Process, Exit, free, process}
 use Rattle.machine.specs.Update.{with_up, with_process}
@@ -22,16 +22,6 @@ unfolding concat_map
 concat_set f [] i v d e = refl
 concat_set f (x ∷ xs) zero v d e = rw e
 concat_set {A} {B} f (x ∷ xs) (suc i) v d e = ap (λ (l : List B). f x ++ l) (concat_set f xs i v d e)
-
--- A number that is in a list is counted.
-elem-some : (k : ℕ) (xs : List ℕ) → elem k xs ≡ true → 1 ≤ count k xs
-unfolding elem count
-elem-some k [] e = let d : ◌≡◌ {A = ℕ} 0 1 = cc in absurd (omega arith)
-elem-some k (x ∷ xs) e = go (eqb k x) refl (λ f. elem-some k xs f)
-  where
-    go : (b : Bool) → eqb k x ≡ b → (elem k xs ≡ true → 1 ≤ count k xs) → 1 ≤ bit (eqb k x) + count k xs
-    go true t rec = omega (arith, ap bit t)
-    go false t rec = omega (arith, rec (rw (t, elem) at e))
 
 -- Without exits of its own, a process that goes frees no cell.
 pub cell_same : (m : Machine) (i : ℕ) → (process m i).exits ≡ [] → free_cell (without i m) ≡ free_cell m

@@ -1,8 +1,8 @@
 -- A process goes: it runs no more, and its cells and its record are free.
-use Rattle.std.specs.Prelude.{◌≡◌, refl, List, [], ℕ, zero, suc}
+use Rattle.std.specs.Prelude.{◌≡◌, refl, List, [], ℕ, suc}
 use Rattle.std.proofs.Common.{sym, subst, ◌∙◌, arith}
 use Rattle.std.proofs.Math.Path.{ap}
-use Rattle.std.proofs.Math.Option.{none, some}
+use Rattle.std.proofs.Math.Option.{none}
 use Rattle.machine.specs.Machine.{Machine, free, process}
 use Rattle.machine.specs.Update.{with_up, with_process, with_exits}
 use Rattle.machine.specs.Exits.{found, without}
@@ -12,6 +12,7 @@ use Rattle.state.specs.Abs.{link_to, machine_of}
 use Rattle.state.specs.Places.{mem_in}
 use Rattle.state.specs.WellFormed.{Used}
 use Rattle.state.specs.declared.Sizes.{Sizes}
+use Rattle.exact.specs.Tables.{some-link}
 use Rattle.holds.specs.Holds.{Holds}
 use Rattle.holds.specs.Did.{machine_in}
 use Rattle.holds.specs.Use.{fewer-same, between_first, Smaller, smaller_join, same_use}
@@ -51,11 +52,6 @@ stop-steady m =
       names = refl;
     }
 
--- A link to i is i's.
-link-is : (l i : ℕ) → link_to l ≡ some i → l ≡ suc i
-link-is zero i e = let d : ◌≡◌ {A = ℕ} 0 1 = cc in absurd (omega arith)
-link-is (suc k) i e = let d : k ≡ i = cc in ap suc d
-
 module _ {z : Sizes} {s : List ℕ} {i : ℕ} (a : LeaveAsks z s i) where
   -- Whoever runs lives.
   pub leave-used : Used (mem_in z s) i
@@ -71,7 +67,7 @@ module _ {z : Sizes} {s : List ℕ} {i : ℕ} (a : LeaveAsks z s i) where
 
     still : mem_in z s₁ fields.up 0 ≡ suc i
     unfolding machine_of with_process
-    still = link-is (mem_in z s₁ fields.up 0) i (ap (λ (m : Machine). m.up) c.did.machine ∙ ap link_to a.runs)
+    still = some-link (mem_in z s₁ fields.up 0) i (ap (λ (m : Machine). m.up) c.did.machine ∙ ap link_to a.runs)
 
     module _ {s₂ : List ℕ} (t : Stopped z s₁ s₂) where
       pub leave-release : ReleaseAsks z s₂ i

@@ -3,14 +3,13 @@ use Rattle.std.specs.Prelude.{◌≡◌, Bool, ℕ, ◌-◌, ◌≤◌, ◌<◌,
 use Rattle.std.proofs.Math.Path.{refl, sym, ap, ap₂}
 use Rattle.std.proofs.Common.{subst, ◌∙◌, arith, lt-ltb, le-ltb, lit<}
 use Rattle.std.proofs.Math.Option.{Option, some}
-use Rattle.std.proofs.lemmas.List.{length-map}
 use Rattle.machine.specs.Machine.{Machine, Process, process}
 use Rattle.machine.specs.Update.{with_process, with_nchild, with_exits}
 use Rattle.machine.specs.Exits.{found, free_cell, has_room, wake_waitr, tell_parent}
 use Rattle.layout.specs.Table.{slot}
 use Rattle.layout.specs.Memory.{Memory}
 use Rattle.state.specs.Fields as fields
-use Rattle.state.specs.Abs.{exit_at, exit_list, process_at, machine_of}
+use Rattle.state.specs.Abs.{process_at, machine_of}
 use Rattle.state.specs.Tables.{table-length}
 use Rattle.state.specs.Places.{mem_in, ReachIn}
 use Rattle.state.specs.WellFormed.{Used}
@@ -30,6 +29,7 @@ use Rattle.machine.specs.Message.{message}
 use Rattle.waitq.specs.Add.{add_mem}
 use Rattle.waitq.specs.Added.{cell_for, AddAsks, AddDone}
 use Rattle.waitq.specs.InUse.{add-kin}
+use Rattle.waitq.specs.Marks.{exits-number}
 use Rattle.records.specs.Nchild.{NchildSet}
 use Rattle.proc_exit.specs.Told.{new_exit, with_exit, fewer, queued, told-room, told-full, queue-again}
 
@@ -71,13 +71,6 @@ pub record ToldParent (z : Sizes) (s s' : List ℕ) (j pid : ℕ) (name status :
       → machine_in z s' ≡ (tell_parent child status (machine_in z s)).machine
   pub spares : Spares z s s'
   pub kin : SameKin (mem_in z s) (mem_in z s')
-
--- How many exits a living process has.
-pub exits-number : {z : Sizes} {s : List ℕ} {n : ℕ} → Holds z s n → (j : ℕ) → Used (mem_in z s) j → length (process (machine_in z s) j).exits ≡ mem_in z s fields.nexits j
-exits-number {z} {s} h j u =
-    ap (λ (p : Process). length p.exits) (used_of (holds-bounds h) j u)
-    ∙ length-map (exit_list (mem_in z s) j) (exit_at (mem_in z s))
-    ∙ h.keeps.cells.counted j u
 
 -- The free cell, by the owners.
 cell-kept : {z : Sizes} {s s₁ : List ℕ} {n : ℕ} → Holds z s n → Holds z s₁ n → mem_in z s₁ fields.owner ≡ mem_in z s fields.owner → free_cell (machine_in z s₁) ≡ free_cell (machine_in z s)

@@ -1,6 +1,6 @@
 -- The machine without a process, and with its parent told.
 use Rattle.std.specs.Prelude.{◌≡◌, refl, Bool, true, false, ◌&&◌, List, [], ◌∷◌, ℕ, zero, suc, ◌-◌, ◌≤◌, ◌<◌, eqb, length, get_or, set}
-use Rattle.std.proofs.Common.{ap, ◌∙◌, arith, eq-eqb, ne_eqb, get_or-set_same, get_or-set_other}
+use Rattle.std.proofs.Common.{ap, ◌∙◌, arith, eq-eqb, ne_eqb, get_or-set_same, get_or-set_other, set-set}
 use Rattle.std.proofs.Math.Option
 use Rattle.std.proofs.Math.Option.{Option, none, some}
 use Rattle.lists.specs.Lists.{bit, count_that-get}
@@ -10,12 +10,6 @@ use Rattle.machine.specs.Update.{with_up, with_process, with_nchild, with_exits}
 use Rattle.machine.specs.Message.{message}
 use Rattle.machine.specs.Good.{Lives, children}
 use Rattle.machine.specs.Exits.{found, free_cell, without, has_room, wake_waitr, tell_parent}
-
--- An element stored twice is stored once.
-set-again : {A : Type 0} (xs : List A) (i : ℕ) (a b : A) → set (set xs i a) i b ≡ set xs i b
-set-again [] i a b = refl
-set-again (x ∷ xs) zero a b = refl
-set-again {A} (x ∷ xs) (suc i) a b = ap (λ (ys : List A). x ∷ ys) (set-again xs i a b)
 
 -- The first that passes is the same where one that is stored passes as the one that stood there.
 first-set : {A : Type 0} (test : A → Bool) (xs : List A) (i : ℕ) (v d : A) → test v ≡ test (get_or xs i d) → first_that test (set xs i v) ≡ first_that test xs
@@ -33,7 +27,7 @@ pub gone : (m : Machine) (i : ℕ) (p : Process) → with_process i free (with_u
 unfolding with_process with_up without
 gone m i p =
     ap (λ (ps : List Process). record { sizes = m.sizes; next_pid = m.next_pid; ticks = m.ticks; last_now = m.last_now; up = none; run = m.run; processes = ps; sleepers = m.sleepers; locks = m.locks; settings = m.settings; queued = m.queued; conditions = m.conditions })
-    (set-again m.processes i p free)
+    (set-set m.processes i p free)
 
 -- Whoever is found by a pid does not depend on exits, or on who runs.
 pub found-still : (m : Machine) (i q : ℕ) → found q (with_up none (with_process i (with_exits [] (process m i)) m)) ≡ found q m
@@ -101,5 +95,5 @@ unfolding with_process process
 queue-again m x j p e d l =
     ap (λ (y : Machine). with_process j (with_exits (e ∷ (process y j).exits) (process y j)) y) d
     ∙ ap (λ (ps : List Process). record { sizes = m.sizes; next_pid = m.next_pid; ticks = m.ticks; last_now = m.last_now; up = m.up; run = m.run; processes = ps; sleepers = m.sleepers; locks = m.locks; settings = m.settings; queued = m.queued; conditions = m.conditions })
-    (set-again m.processes j p (with_exits (e ∷ (get_or (set m.processes j p) j free).exits) (get_or (set m.processes j p) j free))
+    (set-set m.processes j p (with_exits (e ∷ (get_or (set m.processes j p) j free).exits) (get_or (set m.processes j p) j free))
     ∙ ap (λ (q : Process). set m.processes j (with_exits (e ∷ q.exits) q)) (get_or-set_same m.processes j p free l))

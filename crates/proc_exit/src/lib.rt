@@ -1,4 +1,5 @@
 // The step by which a process goes, and its parent is told.
+// `in_interrupt` is the step's mark and not the state's: `exit` asks it once, so a struct of both would be made and taken apart at once.
 #![tactic(auto)]
 
 ghost use Rattle.std.specs.Prelude.{false};
@@ -22,31 +23,40 @@ fn leave(s: &mut State, i: Index)
     ensures done { Left s.old.sizes s.old.bytes.now s.new.bytes.now i }
 {
     waitq::exits::take_all(s, i);
-    dat::lent::stop(s);
-    records::lent::release(s, i);
+    dat::stop(s);
+    records::release(s, i);
 }
 
-// Queues the exit of the child `pid` at process `j`, which has room and is woken where it waits for one.
-fn queue_exit(s: &mut State, j: Index, pid: u64, name: [u8; 28], status: &[u8])
+// A child that exits, as its parent is told of it.
+// The name is the state's own, in fixed memory: 28 bytes, filled up with zeros.
+#[derive(Clone, Copy, Debug, PartialEq, Eq)]
+struct Child<'a> {
+    pid: u64,
+    text: [u8; 28],
+    status: &'a [u8],
+}
+
+// Queues the exit of a child at process `j`, which has room and is woken where it waits for one.
+fn queue_exit(s: &mut State, j: Index, child: &Child)
     requires { AddAsks s.old.sizes s.old.bytes.now j }
     ensures same { Same s.old s.new }
-    ensures done { QueuedExit s.old.sizes s.old.bytes.now s.new.bytes.now j pid name status.now }
+    ensures done { QueuedExit s.old.sizes s.old.bytes.now s.new.bytes.now j child.now.pid child.now.text child.now.status.now }
 {
-    waitq::exits::add(s, j, pid, name, status);
-    dat::lent::wake_waitr(s, j);
+    waitq::exits::add(s, j, child.pid, child.text, child.status);
+    dat::wake_waitr(s, j);
 }
 
-// The living process `j` is told that its child `pid` has gone: it has one child less; below 128 exits this one is queued.
-fn tell_parent(s: &mut State, j: Index, pid: u64, name: [u8; 28], status: &[u8])
+// The living process `j` is told that its child has gone: it has one child less; below 128 exits this one is queued.
+fn tell_parent(s: &mut State, j: Index, child: &Child)
     requires { TellAsks s.old.sizes s.old.bytes.now j }
     ensures same { Same s.old s.new }
-    ensures done { ToldParent s.old.sizes s.old.bytes.now s.new.bytes.now j pid name status.now }
+    ensures done { ToldParent s.old.sizes s.old.bytes.now s.new.bytes.now j child.now.pid child.now.text child.now.status.now }
 {
     let nchild = s.get(field::NCHILD, j);
     let nexits = s.get(field::NEXITS, j);
-    records::lent::set_nchild(s, j, nchild - 1);
+    records::set_nchild(s, j, nchild - 1);
     if nexits < 128 {
-        queue_exit(s, j, pid, name, status);
+        queue_exit(s, j, child);
     }
 }
 
@@ -58,15 +68,7 @@ fn no_cell(v: &View, i: Index, parent: Option<Index>) -> bool
     let Some(j) = parent else {
         return false;
     };
-    let there = v.get(field::NEXITS, j);
-    if 128 <= there {
-        return false;
-    }
-    if free::lent::find_cell(v).is_some() {
-        return false;
-    }
-    let own = v.get(field::NEXITS, i);
-    own == 0
+    v.get(field::NEXITS, j) < 128 && (free::find_cell(v).is_none() && v.get(field::NEXITS, i) == 0)
 }
 
 // The running process `i` goes, and its living parent, where it has one, is told: its pid.
@@ -78,7 +80,8 @@ fn depart(s: &mut State, i: Index, parent: Option<Index>, status: &[u8]) -> u64
     let p = Proc::load(&s.view(), i);
     leave(s, i);
     if let Some(j) = parent {
-        tell_parent(s, j, p.pid, p.text, status);
+        let Proc { pid, text, .. } = p;
+        tell_parent(s, j, &Child { pid, text, status });
     }
     p.pid
 }
@@ -89,7 +92,7 @@ fn pexit(s: &mut State, i: Index, status: &[u8]) -> Result<Reply, Refusal>
     ensures same { Same s.old s.new }
     ensures done { Exited s.old.sizes s.old.bytes.now s.new.bytes.now false status.now result }
 {
-    let parent = ages::lent::find_parent(&s.view(), i);
+    let parent = ages::find_parent(&s.view(), i);
     if no_cell(&s.view(), i, parent) {
         return Err(Refusal::NoFreeCell);
     }
@@ -103,6 +106,6 @@ pub fn exit(s: &mut State, in_interrupt: bool, status: &[u8]) -> Result<Reply, R
     ensures same { Same s.old s.new }
     ensures done { Exited s.old.sizes s.old.bytes.now s.new.bytes.now in_interrupt status.now result }
 {
-    let i = outcome::lent::running(&s.view(), in_interrupt)?;
+    let i = outcome::running(&s.view(), in_interrupt)?;
     pexit(s, i, status)
 }

@@ -1,5 +1,5 @@
--- The child of the running process: what `fork_off` and `fork_own` ask and ensure.
-use Rattle.std.specs.Prelude.{◌≡◌, refl, Bool, true, false, List, ℕ, suc, ◌+◌, ◌≤◌, ◌<◌}
+-- The child of the running process: what `fork` asks and ensures.
+use Rattle.std.specs.Prelude.{◌≡◌, refl, Bool, true, false, Option, None, Some, List, ℕ, suc, ◌+◌, ◌≤◌, ◌<◌}
 use Rattle.std.proofs.Math.Path.{sym}
 use Rattle.std.proofs.Common.{ap, ap₂, subst, ◌∙◌, arith, add-one}
 use Rattle.std.proofs.Math.Option.{some}
@@ -7,6 +7,7 @@ use Rattle.machine.specs.Machine.{Machine, Process, process, pid_of}
 use Rattle.machine.specs.Update.{with_process, with_nchild}
 use Rattle.machine.specs.Exits.{free_record}
 use Rattle.machine.specs.Perform.{made}
+use Rattle.memory.specs.Link.{link}
 use Rattle.layout.specs.Memory.{Memory}
 use Rattle.state.specs.Fields as fields
 use Rattle.state.specs.Places.{sizes_in, mem_in}
@@ -33,7 +34,7 @@ use Rattle.proc_fork.specs.Runs.{runs-lives}
 use Rattle.proc_fork.specs.Children.{children-within}
 
 -- A record with the name of p, the parent v and the link l to it.
-pub record ChildOf (p : Proc) (v l : ℕ) (r : Proc) : Type 0 where
+pub record ChildOf (p : Proc) (v : ℕ) (l : Option ℕ) (r : Proc) : Type 0 where
   pub parent : r.parent ≡ v
   pub link : r.parent_at ≡ l
   pub text : r.text ≡ p.text
@@ -54,7 +55,7 @@ pub record AdoptAsks (z : Sizes) (s : List ℕ) (i : ℕ) (p : Proc) : Type 0 wh
 -- One more counts as its child, whose record is q.
 pub record Adopted (z : Sizes) (s s' : List ℕ) (i : ℕ) (p q : Proc) : Type 0 where
   pub counted : NchildSet z s s' i (p.nchild + 1)
-  pub child : ChildOf p p.pid (i + 1) q
+  pub child : ChildOf p p.pid (Some i) q
 
 -- The machine with a child of process i: dissociated, or counted as one of the living children.
 abbrev pub child_made : Bool → ℕ → Machine → Machine
@@ -80,9 +81,6 @@ module _ {z : Sizes} {s : List ℕ} {i : ℕ} (a : ForkAsks z s i) where
   pub fork-load : LoadAsks z s i
   fork-load = record { index = living-low fork-lives; long = a.well.holds.state.long }
 
-  pub fork-link : i + 1 ≤ 65535
-  fork-link = omega (arith, living-low fork-lives, a.well.holds.sizes.processes.1)
-
   module _ {p : Proc} (l : Loaded z s i p) where
     name-is : p.text ≡ (process (machine_in z s) i).name
     unfolding name_of
@@ -94,7 +92,7 @@ module _ {z : Sizes} {s : List ℕ} {i : ℕ} (a : ForkAsks z s i) where
     nchild-is : p.nchild ≡ (process (machine_in z s) i).nchild
     nchild-is = l.nchild ∙ sym (ap (λ (q : Process). q.nchild) (used_of b i used))
 
-    named : {v k : ℕ} {q : Proc} → ChildOf p v k q → IsName q.text
+    named : {v : ℕ} {k : Option ℕ} {q : Proc} → ChildOf p v k q → IsName q.text
     named c = subst IsName (sym c.text) (loaded-name (record { sizes = a.well.holds.sizes; state = a.well.holds.state }) l)
 
     -- A process has no more children than there are records.
@@ -110,19 +108,19 @@ module _ {z : Sizes} {s : List ℕ} {i : ℕ} (a : ForkAsks z s i) where
         )
 
     module _ {q : Proc} where
-      pub off-begin : ChildOf p 0 0 q → BeginAsks z s q
+      pub off-begin : ChildOf p 0 None q → BeginAsks z s q
       off-begin c =
           record {
             holds = a.well.holds;
-            new = newcomer_orphan b a.well.good c.parent c.link;
+            new = newcomer_orphan b a.well.good c.parent (ap link c.link);
             at = a.at;
             free = a.free;
             pid = a.pid;
-            link = omega (arith, c.link);
+            link = omega (arith, ap link c.link);
             text = named c;
           }
 
-      pub off-done : {s₁ : List ℕ} → ChildOf p 0 0 q → Begun z s s₁ q → Forked z s s₁ i true
+      pub off-done : {s₁ : List ℕ} → ChildOf p 0 None q → Begun z s s₁ q → Forked z s s₁ i true
       off-done c d =
           record {
             holds = d.holds;
@@ -135,14 +133,14 @@ module _ {z : Sizes} {s : List ℕ} {i : ℕ} (a : ForkAsks z s i) where
         t : NchildSet z s s₁ i (p.nchild + 1)
         t = o.counted
 
-        c : ChildOf p p.pid (i + 1) q
+        c : ChildOf p p.pid (Some i) q
         c = o.child
 
         newcomer : Newcomer (mem_in z s₁) q (mem_in z s₁ fields.next_pid 0)
         newcomer =
             subst (Newcomer (mem_in z s₁) q) (sym (ap (λ (x : Memory). x fields.next_pid 0) t.did.memory))
             (newcomer_same (ap (λ (x : Memory). x fields.pid) t.did.memory) (ap (λ (x : Memory). x fields.parent) t.did.memory)
-            (newcomer-child b a.well.good a.well.holds.keeps.ages used (c.parent ∙ l.pid) (c.link ∙ omega arith)))
+            (newcomer-child b a.well.good a.well.holds.keeps.ages used (c.parent ∙ l.pid) (ap link c.link)))
 
         pub own-begin : BeginAsks z s₁ q
         own-begin =
@@ -156,7 +154,7 @@ module _ {z : Sizes} {s : List ℕ} {i : ℕ} (a : ForkAsks z s i) where
                   ∙ sym (free_record_lem (sizes_in z) (mem_in z s))
                   ∙ a.free;
               pid = omega (arith, ap (λ (x : Memory). x fields.next_pid 0) t.did.memory, a.pid);
-              link = omega (arith, c.link, living-low fork-lives);
+              link = omega (arith, ap link c.link, living-low fork-lives);
               text = named c;
             }
 
@@ -180,9 +178,6 @@ adopt-lives a = fork-lives a.fork
 
 pub adopt-room : {z : Sizes} {s : List ℕ} {i : ℕ} {p : Proc} → AdoptAsks z s i p → p.nchild + 1 ≤ 65535
 adopt-room a = fork-room a.fork a.loaded
-
-pub adopt-link : {z : Sizes} {s : List ℕ} {i : ℕ} {p : Proc} → AdoptAsks z s i p → i + 1 ≤ 65535
-adopt-link a = fork-link a.fork
 
 -- The two ways.
 pub fork_off : {z : Sizes} {s s₁ : List ℕ} {i : ℕ} {off : Bool} → off ≡ true → Forked z s s₁ i true → Forked z s s₁ i off

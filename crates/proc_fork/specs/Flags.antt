@@ -1,6 +1,22 @@
 -- The flags of rfork, as the code tests them.
 use Rattle.std.specs.Prelude.{◌≡◌, refl, Bool, not, ◌&&◌, ◌||◌, ℕ, ◌/◌, ◌%◌, eqb}
+use Rattle.machine.specs.Flags as machine
 use Rattle.machine.specs.Flags.{has, bad}
+use Rattle.proc_fork.specs.declared.flags.Flag.{Flag}
+use Rattle.proc_fork.specs.declared.flags.Flag.TheVariants.{Rfnameg, Rfenvg, Rffdg, Rfproc, Rfmem, Rfnowait, Rfcnameg, Rfcenvg, Rfcfdg, Rfnomnt}
+
+-- The bit of a flag: its number in docs/MACHINE.md.
+abbrev pub bit : Flag → ℕ
+bit Rfnameg = machine.RFNAMEG
+bit Rfenvg = machine.RFENVG
+bit Rffdg = machine.RFFDG
+bit Rfproc = machine.RFPROC
+bit Rfmem = machine.RFMEM
+bit Rfnowait = machine.RFNOWAIT
+bit Rfcnameg = machine.RFCNAMEG
+bit Rfcenvg = machine.RFCENVG
+bit Rfcfdg = machine.RFCFDG
+bit Rfnomnt = machine.RFNOMNT
 
 -- A test for one flag, by its value.
 pub record Has (F flag : ℕ) (r : Bool) : Type 0 where

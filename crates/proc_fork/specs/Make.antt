@@ -18,7 +18,7 @@ use Rattle.state.specs.declared.Sizes.{Sizes}
 use Rattle.holds.specs.Holds.{Holds}
 use Rattle.holds.specs.Did.{machine_in, writes_in}
 use Rattle.holds.specs.Use.{same_use}
-use Rattle.holds.specs.Touched.{Touched, touched_none, touched-did}
+use Rattle.holds.specs.Touched.{Touched, touched-did}
 use Rattle.records.specs.Pid.{pid_stores, PidTaken}
 use Rattle.outcome.specs.declared.Reply as code
 use Rattle.outcome.specs.declared.Reply.TheVariants.{Pid}
@@ -30,7 +30,7 @@ use Rattle.outcome.specs.Laws.{stepped-done, stepped-left}
 use Rattle.outcome.specs.Refusals.{step}
 use Rattle.outcome.specs.RefusalsMake.{refused-rfork-12, refused-rfork-16, refused-rfork-11, allowed-rfork}
 use Rattle.proc_start.specs.declared.Making.{Making}
-use Rattle.proc_start.specs.declared.Making.TheVariants.{Works, NoSpace, NoStack, NoCopy}
+use Rattle.proc_start.specs.declared.Making.TheVariants.{NoCopy}
 use Rattle.proc_start.specs.Making.{number}
 use Rattle.proc_start.specs.Room.{Room, NoRoom, pid_in, not_last, no-room}
 use Rattle.outcome.specs.Running.{somebody-up, current-is}
@@ -59,20 +59,6 @@ module _ {z : Sizes} {s : List ℕ} (how : Making) (a : SpendAsks z s) where
         machine = t.did.machine;
         touched = touched-did t.did (same_use refl refl refl refl refl refl refl refl refl);
       })
-
-  spared : (x : Making) → eqb (number x) 3 ≡ false → how ≡ x → Spent z s s (number how)
-  spared x n e =
-      subst (λ (y : Making). Spent z s s (number y)) (sym e)
-      (record { holds = a.holds; bytes = rw n; machine = rw n; touched = touched_none })
-
-  pub spend-works : how ≡ Works → Spent z s s (number how)
-  spend-works e = spared Works refl e
-
-  pub spend-space : how ≡ NoSpace → Spent z s s (number how)
-  spend-space e = spared NoSpace refl e
-
-  pub spend-stack : how ≡ NoStack → Spent z s s (number how)
-  spend-stack e = spared NoStack refl e
 
 pub record RforkTook (z : Sizes) (s s' : List ℕ) (k : Bool) (F M : ℕ) (a : Result code.Reply Refusal) : Type 0 where
   pub stepped : Stepped z s s' (step k (rfork F M)) [] a

@@ -1,6 +1,6 @@
 -- What a timer does when it fires.
 use Rattle.std.specs.Prelude.{if◌then◌else◌, ◌≡◌, refl, List, ℕ, ◌-◌, ◌≤◌, ◌<◌, eqb, ltb}
-use Rattle.std.proofs.Common.{sym, ap, ◌∙◌, arith, ne_eqb, lt-ltb, le-ltb}
+use Rattle.std.proofs.Common.{sym, ap, subst, ◌∙◌, arith, ne_eqb, lt-ltb, le-ltb}
 use Rattle.machine.specs.Machine.{Machine, Setting, process, setting}
 use Rattle.machine.specs.Places.{wake}
 use Rattle.machine.specs.Timers.{twakeup, callback}
@@ -20,6 +20,8 @@ use Rattle.dat.specs.Rendez.{WakeAsks, Woke}
 use Rattle.clockwork.specs.Stores.{Became}
 use Rattle.clockwork.specs.Clock.{TickAsks, tick_stores, ticked}
 use Rattle.outcome.specs.Stepped.{Well}
+use Rattle.proc_intr.specs.declared.Whose.{Whose}
+use Rattle.proc_intr.specs.declared.Whose.TheVariants.{Clock, Kernel, Process}
 use Rattle.proc_intr.specs.Readies.{link_stores, Readies, readies_woke, readies_as}
 use Rattle.proc_intr.specs.Twakeup.{TwakeupAsks, Twoken}
 
@@ -28,6 +30,12 @@ pub record CallbackAsks (z : Sizes) (s : List ℕ) (t : ℕ) : Type 0 where
   pub well : Well z s
   pub index : t < timers_in z
   pub lives : z.timers ≤ t → Used (mem_in z s) (t - z.timers)
+
+-- Whose timer t is, of K kernel timers.
+abbrev pub WhoseIs : ℕ → ℕ → Whose → Type 0
+WhoseIs K t Clock = t ≡ 0
+WhoseIs K t Kernel = (t ≡ 0 → ⊥) × (t < K)
+WhoseIs K t (Process i) = (t ≡ 0 → ⊥) × (K ≤ t) × (i ≡ t - K)
 
 -- The Rendez that timer t, other than timer 0, wakes.
 abbrev pub rendez_of : Sizes → Memory → ℕ → ℕ
@@ -73,8 +81,9 @@ called-tick {z} {s} {s'} {t} a e b =
     }
 
 -- A process's own.
-pub callback-own : {z : Sizes} {s : List ℕ} {t : ℕ} → CallbackAsks z s t → z.timers ≤ t → TwakeupAsks z s (t - z.timers)
-callback-own a l = record { well = a.well; index = omega (arith, a.index, l); lives = a.lives l }
+pub callback-own : {z : Sizes} {s : List ℕ} {t i : ℕ} → CallbackAsks z s t → WhoseIs z.timers t (Process i) → TwakeupAsks z s i
+callback-own {z} {s} a h =
+    subst (TwakeupAsks z s) (sym h.2) (record { well = a.well; index = omega (arith, a.index, h.1); lives = a.lives h.1 })
 
 own-callback
     : (M : Machine) (t : ℕ) → (t ≡ 0 → ⊥) → M.sizes.timers ≤ t → callback t M ≡ twakeup (process M (t - M.sizes.timers)).resume M
@@ -82,16 +91,15 @@ unfolding callback
 own-callback M t ne l = rw (ne_eqb t 0 ne, le-ltb t M.sizes.timers l)
 
 pub called-own
-    : {z : Sizes} {s s' : List ℕ} {t : ℕ}
+    : {z : Sizes} {s s' : List ℕ} {t i : ℕ}
     → CallbackAsks z s t
-    → (t ≡ 0 → ⊥)
-    → z.timers ≤ t
-    → Twoken z s s' (t - z.timers)
+    → WhoseIs z.timers t (Process i)
+    → Twoken z s s' i
     → CalledBack z s s' t
 unfolding machine_of
-called-own {z} {s} {s'} {t} a ne k w =
-    let M : Machine = machine_in z s in
-    record { woke = w.woke; did = readies_as w.did (rw (ne_eqb t 0 ne, le-ltb t z.timers k)) (own-callback M t ne k) }
+called-own {z} {s} {s'} {t} a h x =
+    let w : Twoken z s s' (t - z.timers) = subst (Twoken z s s') h.2 x in
+    record { woke = w.woke; did = readies_as w.did (rw (ne_eqb t 0 h.0, le-ltb t z.timers h.1)) (own-callback (machine_in z s) t h.0 h.1) }
 
 -- A kernel timer.
 pub callback-wakes
@@ -110,19 +118,18 @@ kernel_callback M t ne l = rw (ne_eqb t 0 ne, lt-ltb t M.sizes.timers l)
 pub called_kernel
     : {z : Sizes} {s s' : List ℕ} {t r l : ℕ}
     → CallbackAsks z s t
-    → (t ≡ 0 → ⊥)
-    → t < z.timers
+    → WhoseIs z.timers t Kernel
     → r ≡ mem_in z s fields.timer_rendez t
     → Woke z s s' r l
     → CalledBack z s s' t
 unfolding machine_of
-called_kernel {z} {s} {s'} {t} {r} {l} a ne k e w =
+called_kernel {z} {s} {s'} {t} {r} {l} a h e w =
     let M : Machine = machine_in z s in
-    let x : (setting M t).rendez ≡ r = ap (λ (y : Setting). y.rendez) (setting_of_lem (holds-bounds a.well.holds) t k) ∙ sym e in
+    let x : (setting M t).rendez ≡ r = ap (λ (y : Setting). y.rendez) (setting_of_lem (holds-bounds a.well.holds) t h.1) ∙ sym e in
     record {
       woke = l;
       did =
           readies_as (readies_woke (wake r M) w refl)
-          (rw (ne_eqb t 0 ne, lt-ltb t z.timers k) (ap (λ (y : ℕ). link_stores (mem_in z s) y l) e))
-          (kernel_callback M t ne k ∙ ap (λ (y : ℕ). wake y M) x);
+          (rw (ne_eqb t 0 h.0, lt-ltb t z.timers h.1) (ap (λ (y : ℕ). link_stores (mem_in z s) y l) e))
+          (kernel_callback M t h.0 h.1 ∙ ap (λ (y : ℕ). wake y M) x);
     }

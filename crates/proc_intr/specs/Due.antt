@@ -1,5 +1,5 @@
 -- The head of the queue fires where it is due.
-use Rattle.std.specs.Prelude.{◌≡◌, refl, Bool, true, false, List, [], ◌∷◌, ℕ, suc, ◌+◌, ◌-◌, ◌<◌, T, eqb}
+use Rattle.std.specs.Prelude.{◌≡◌, refl, Bool, true, false, List, [], ◌∷◌, ℕ, suc, ◌+◌, ◌-◌, ◌<◌, eqb}
 use Rattle.std.proofs.Common.{sym, ap, subst, ◌∙◌, arith, eqb-true}
 use Rattle.std.proofs.lemmas.Bool.{eqb-false}
 use Rattle.machine.specs.Machine.{Machine, Queued, pid_of}
@@ -10,6 +10,7 @@ use Rattle.state.specs.Fields as fields
 use Rattle.state.specs.Abs.{machine_of}
 use Rattle.state.specs.Places.{mem_in}
 use Rattle.state.specs.declared.Sizes.{Sizes}
+use Rattle.exact.specs.Sums.{true-false}
 use Rattle.exact.specs.Parts.{pid_of_lem}
 use Rattle.holds.specs.Holds.{Holds}
 use Rattle.holds.specs.Whole.{holds-bounds}
@@ -23,7 +24,7 @@ use Rattle.outcome.specs.Stepped.{Well}
 use Rattle.proc_intr.specs.Fire.{timer_at, FireAsks, Fired}
 use Rattle.proc_intr.specs.OneFired.{OneFired, rest-good, head-lives, one-good}
 
--- `fire_due` at the last reading.
+-- A firing at the last reading, as `interrupt` does one after another.
 pub record DueAsks (z : Sizes) (s : List ℕ) (reading : ℕ) : Type 0 where
   pub well : Well z s
   pub last : (machine_in z s).last_now ≡ reading
@@ -39,14 +40,11 @@ pub record FiredDue (z : Sizes) (s s' : List ℕ) (reading : ℕ) (b : Bool) : T
   pub fewer : (f i : ℕ) → used z (mem_in z s) f i ≡ 0 → used z (mem_in z s') f i ≡ 0
   pub rounds : Rounds z (mem_in z s) (mem_in z s')
 
-not-both : true ≡ false → ⊥
-not-both e = subst T e tt
-
 none-due : (reading : ℕ) (q : List Queued) → Later reading q → NoneDue reading q
 none-due reading [] l = tt
 none-due reading (x ∷ rest) l = l
 
--- What the code of `fire_due` shows: nothing is due, or the head, timer t, is taken off and fires.
+-- What one turn of `interrupt` shows: nothing is due, or the head, timer t, is taken off and fires.
 pub due-none : {z : Sizes} {s s₁ : List ℕ} {reading : ℕ} → DueAsks z s reading → PoppedDue z s s₁ reading 0 → FiredDue z s s₁ reading false
 due-none {z} {s} {s₁} {reading} a p =
     let b : s₁ ≡ s = p.wrote.bytes in
@@ -54,7 +52,7 @@ due-none {z} {s} {s₁} {reading} a p =
       again = subst (λ (x : List ℕ). DueAsks z x reading) (sym b) a;
       bytes = λ _. b;
       later = λ _. none-due reading (machine_in z s).queued (p.later refl);
-      fires = λ x. absurd (not-both (sym x));
+      fires = λ x. absurd (true-false (sym x));
       spares = p.spares;
       fewer = p.fewer.fewer;
       rounds = rounds-same (ap (mem_in z) b);
@@ -142,8 +140,8 @@ due-fired {z} {s} {s₁} {s₂} {reading} {t} a p f =
     let k : (Good (machine_in z s₂)) × ((machine_in z s₂).last_now ≡ reading) = one-good (machine_in z s) (machine_in z s₂) reading a.well.good a.last o in
     record {
       again = record { well = record { holds = f.holds 0 (p.holds 0 a.well.holds); good = k.0 }; last = k.1 };
-      bytes = λ x. absurd (not-both x);
-      later = λ x. absurd (not-both x);
+      bytes = λ x. absurd (true-false x);
+      later = λ x. absurd (true-false x);
       fires = λ _. o;
       spares = spares-fewer p.spares p.fewer f.spares (alive-kin f.rounds.kin);
       fewer = λ g i x. (f.uses (mem_in z s) (p.on t refl)).between g i x (p.fewer.fewer g i x);

@@ -1,11 +1,12 @@
 // `intr`: every timer that is due at a reading of the clock fires, as timer.rs does at an interrupt.
+// `Well` stays a clause: a step breaks it midway, and a type's invariant would be owed at every store.
 #![tactic(auto)]
 
 ghost use Rattle.machine.specs.Step.{intr};
 ghost use Rattle.state.specs.Lent.{Same};
 ghost use Rattle.outcome.specs.Stepped.{Well};
 ghost use Rattle.proc_intr.specs.Twakeup.{TwakeupAsks, Twoken};
-ghost use Rattle.proc_intr.specs.Callback.{CallbackAsks, CalledBack};
+ghost use Rattle.proc_intr.specs.Callback.{WhoseIs, CallbackAsks, CalledBack};
 ghost use Rattle.proc_intr.specs.Fire.{FireAsks, Fired};
 ghost use Rattle.proc_intr.specs.Due.{DueAsks, FiredDue};
 ghost use Rattle.proc_intr.specs.Interrupt.{Interrupted};
@@ -28,23 +29,45 @@ fn twakeup(s: &mut State, i: Index)
     let Resume::Tsleep { rendez, .. } = call else {
         return;
     };
-    dat::lent::wakeup(s, rendez);
+    dat::wakeup(s, rendez);
 }
 
-// What timer `t` does: timer 0 adds a tick, a kernel timer wakes its Rendez, and a process's that of its `tsleep`.
+// Whose a timer is: the clock's, which ticks, the kernel's, which wakes its Rendez, or that of a process's `tsleep`.
+#[derive(Clone, Copy, Debug, PartialEq, Eq)]
+enum Whose {
+    Clock,
+    Kernel,
+    Process(Index),
+}
+
+impl Whose {
+    // Timer `t`, of so many kernel timers: 0 is the clock's, and behind the kernel's each process has one.
+    fn of(kernel: Index, t: Index) -> Self
+        ensures { WhoseIs kernel t result }
+    {
+        if t == 0 {
+            Whose::Clock
+        } else if t < kernel {
+            Whose::Kernel
+        } else {
+            Whose::Process(t - kernel)
+        }
+    }
+}
+
+// What timer `t` does: the clock's adds a tick, a kernel timer wakes its Rendez, and a process's that of its `tsleep`.
 fn callback(s: &mut State, t: Index)
     requires { CallbackAsks s.old.sizes s.old.bytes.now t }
     ensures same { Same s.old s.new }
     ensures done { CalledBack s.old.sizes s.old.bytes.now s.new.bytes.now t }
 {
-    let kernel = s.sizes.timers;
-    if t == 0 {
-        clockwork::time::tick(s);
-    } else if kernel <= t {
-        twakeup(s, t - kernel);
-    } else {
-        let r = s.get(field::TIMER_RENDEZ, t);
-        dat::lent::wakeup(s, r);
+    match Whose::of(s.sizes.timers, t) {
+        Whose::Clock => clockwork::time::tick(s),
+        Whose::Kernel => {
+            let r = s.get(field::TIMER_RENDEZ, t);
+            dat::wakeup(s, r);
+        }
+        Whose::Process(i) => twakeup(s, i),
     }
 }
 

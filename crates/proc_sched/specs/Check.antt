@@ -1,7 +1,6 @@
 -- A woken sleeper checks again: what the code shows at each return.
-use Rattle.std.specs.Prelude.{if◌then◌else◌, ◌≡◌, refl, Bool, true, false, not, List, [], ℕ, ◌+◌, ◌<◌, Result}
+use Rattle.std.specs.Prelude.{if◌then◌else◌, ◌≡◌, refl, Bool, true, false, List, [], ℕ, ◌+◌, ◌<◌, Result}
 use Rattle.std.proofs.Common.{sym, ap, subst, ◌∙◌, arith}
-use Rattle.std.proofs.lemmas.Bool.{not-true, not-false}
 use Rattle.machine.specs.Machine.{Machine, pid_of, condition}
 use Rattle.machine.specs.Outcome.{Answer, Outcome}
 use Rattle.machine.specs.Timers.{delete, is_queued, own_timer}
@@ -11,6 +10,7 @@ use Rattle.state.specs.Fields as fields
 use Rattle.state.specs.Abs.{run_list, waiter_list, waits_on, machine_of}
 use Rattle.state.specs.Places.{sizes_in, mem_in}
 use Rattle.state.specs.declared.Sizes.{Sizes}
+use Rattle.exact.specs.Sums.{true-false}
 use Rattle.holds.specs.Did.{machine_in}
 use Rattle.places.specs.Nowhere.{Nowhere}
 use Rattle.places.specs.Rendez.{CallsRendez}
@@ -125,43 +125,39 @@ untimed : (m : Machine) (i r : ℕ) → tsleep_checks false i r m ≡ checks_aga
 unfolding tsleep_checks
 untimed m i r = refl
 
-pub tsleep-queued : {z : Sizes} {s : List ℕ} {i r c : ℕ} → TsleepAsks z s i r c → TimerAsks z s (z.timers + i)
-tsleep-queued k = out_del k.limbo
-
-pub tsleep-small : {z : Sizes} {s : List ℕ} {i r c : ℕ} → TsleepAsks z s i r c → z.timers + i < 65536
-tsleep-small k = out_small k.limbo
-
-pub tsleep-limbo : {z : Sizes} {s : List ℕ} {i r c : ℕ} → TsleepAsks z s i r c → Limbo z s i
-tsleep-limbo k = k.limbo
+-- The `tsleep` of i, whose condition is c, ends.
+pub record Ends (z : Sizes) (s : List ℕ) (i c : ℕ) (t : Bool) : Type 0 where
+  pub answer : t ≡ (if is_queued (own_timer i (machine_in z s)) (machine_in z s) then condition (machine_in z s) c else true)
 
 pub own-queued : {z : Sizes} {s : List ℕ} {q : Bool} (i : ℕ) → IsQueued z s (z.timers + i) q → is_queued (own_timer i (machine_in z s)) (machine_in z s) ≡ q
 own-queued {z} {s} i h = ap (λ (t : ℕ). is_queued t (machine_in z s)) (own_is z s i) ∙ sym h.answer
 
-pub tsleep-again
-    : {z : Sizes} {s : List ℕ} {i r c : ℕ} {q t : Bool}
-    → TsleepAsks z s i r c → IsQueued z s (z.timers + i) q → not q ≡ false → Condition z s c t → t ≡ false → AgainAsks z s i r
-tsleep-again {i = i} {q = q} k h d g e =
-    record {
-      limbo = k.limbo;
-      call = k.call;
-      index = k.index;
-      empty = k.empty (own-queued i h ∙ not-false q d) (sym g.answer ∙ e);
-    }
+pub ends-fired : {z : Sizes} {s : List ℕ} {i c : ℕ} {q : Bool} → IsQueued z s (z.timers + i) q → q ≡ false → Ends z s i c true
+ends-fired {i = i} h e = record { answer = rw (own-queued i h ∙ e) refl }
 
-pub tsleep-fired
-    : {z : Sizes} {s s₁ : List ℕ} {i r c : ℕ} {q : Bool} {a : Result code.Reply Refusal}
-    → TsleepAsks z s i r c → IsQueued z s (z.timers + i) q → not q ≡ true → TimedOut z s s₁ i a → TsleepChecked z s s₁ i r c a
-tsleep-fired {z} {s} {s₁} {i} {r} {c} {q} {a} k h e o =
-    record { went = rw (own-queued i h ∙ not-true q e, timed (machine_in z s) i r) o.went }
+pub ends-holds : {z : Sizes} {s : List ℕ} {i c : ℕ} {q t : Bool} → IsQueued z s (z.timers + i) q → q ≡ true → Condition z s c t → Ends z s i c t
+ends-holds {i = i} h e g = record { answer = g.answer ∙ rw (own-queued i h ∙ e) refl }
 
-pub tsleep-true
-    : {z : Sizes} {s s₁ : List ℕ} {i r c : ℕ} {q t : Bool} {a : Result code.Reply Refusal}
-    → TsleepAsks z s i r c → IsQueued z s (z.timers + i) q → not q ≡ false → Condition z s c t → t ≡ true → TimedOut z s s₁ i a → TsleepChecked z s s₁ i r c a
-tsleep-true {z} {s} {s₁} {i} {r} {c} {q} {t} {a} k h e g d o =
-    record { went = rw (own-queued i h ∙ not-false q e, sym g.answer ∙ d, timed (machine_in z s) i r) o.went }
+-- It does not end only while its timer is queued and its condition is false.
+not-ended : (q c : Bool) → (if q then c else true) ≡ false → (q ≡ true) × (c ≡ false)
+not-ended true c e = (refl, e)
+not-ended false c e = absurd (true-false e)
+
+pub tsleep-again : {z : Sizes} {s : List ℕ} {i r c : ℕ} {t : Bool} → TsleepAsks z s i r c → Ends z s i c t → t ≡ false → AgainAsks z s i r
+tsleep-again {z} {s} {i} {r} {c} k h e =
+    let n : (is_queued (own_timer i (machine_in z s)) (machine_in z s) ≡ true) × (condition (machine_in z s) c ≡ false) =
+    not-ended (is_queued (own_timer i (machine_in z s)) (machine_in z s)) (condition (machine_in z s) c) (sym h.answer ∙ e)
+    in
+    record { limbo = k.limbo; call = k.call; index = k.index; empty = k.empty n.0 n.1 }
+
+pub tsleep-ended
+    : {z : Sizes} {s s₁ : List ℕ} {i r c : ℕ} {t : Bool} {a : Result code.Reply Refusal}
+    → Ends z s i c t → t ≡ true → TimedOut z s s₁ i a → TsleepChecked z s s₁ i r c a
+tsleep-ended {z} {s} {s₁} {i} {r} {c} {t} {a} h e o =
+    record { went = rw (sym h.answer ∙ e, timed (machine_in z s) i r) o.went }
 
 pub tsleep-sleeps
-    : {z : Sizes} {s s₁ : List ℕ} {i r c : ℕ} {q t : Bool} {a : Result code.Reply Refusal}
-    → TsleepAsks z s i r c → IsQueued z s (z.timers + i) q → not q ≡ false → Condition z s c t → t ≡ false → SleptAgain z s s₁ i r a → TsleepChecked z s s₁ i r c a
-tsleep-sleeps {z} {s} {s₁} {i} {r} {c} {q} {t} {a} k h e g d o =
-    record { went = rw (own-queued i h ∙ not-false q e, sym g.answer ∙ d, untimed (machine_in z s) i r) o.went }
+    : {z : Sizes} {s s₁ : List ℕ} {i r c : ℕ} {t : Bool} {a : Result code.Reply Refusal}
+    → Ends z s i c t → t ≡ false → SleptAgain z s s₁ i r a → TsleepChecked z s s₁ i r c a
+tsleep-sleeps {z} {s} {s₁} {i} {r} {c} {t} {a} h e o =
+    record { went = rw (sym h.answer ∙ e, untimed (machine_in z s) i r) o.went }

@@ -1,8 +1,7 @@
 -- Whether a woken sleeper would sleep again where another is asleep: what the code shows at each return.
-use Rattle.std.specs.Prelude.{◌≡◌, Option, None, Some, is_some, Bool, true, false, not, List, ℕ, ◌+◌, ◌<◌}
+use Rattle.std.specs.Prelude.{◌≡◌, Option, None, Some, is_some, Bool, true, false, List, ℕ, ◌+◌, ◌<◌}
 use Rattle.std.proofs.Math.Path.{refl}
 use Rattle.std.proofs.Common.{sym, ap, subst, ◌∙◌, arith}
-use Rattle.std.proofs.lemmas.Bool.{not-true, not-false}
 use Rattle.memory.specs.Link.{link}
 use Rattle.machine.specs.Good.{ResumeInRange}
 use Rattle.machine.specs.Table as table
@@ -84,11 +83,11 @@ module _ {z : Sizes} {s : List ℕ} {i : ℕ} {c : Resume} (a : TakenAgainAsks z
   unfolding table.taken_again
   again-slept {r} {d} e h = shown (Sleep r d) e h.answer
 
-  pub again-fired : {r d : ℕ} {q : Bool} → c ≡ Tsleep r d → IsQueued z s (z.timers + i) q → not q ≡ true → TakenAgain z s i c false
+  pub again-fired : {r d : ℕ} {q : Bool} → c ≡ Tsleep r d → IsQueued z s (z.timers + i) q → q ≡ false → TakenAgain z s i c false
   unfolding table.taken_again
-  again-fired {r} {d} {q} e h n = shown (Tsleep r d) e (rw (own-queued i h ∙ not-true q n) refl)
+  again-fired {r} {d} {q} e h n = shown (Tsleep r d) e (rw (own-queued i h ∙ n) refl)
 
   pub again-queued
-      : {r d : ℕ} {q t : Bool} → c ≡ Tsleep r d → IsQueued z s (z.timers + i) q → not q ≡ false → Taken z s r d t → TakenAgain z s i c t
+      : {r d : ℕ} {q t : Bool} → c ≡ Tsleep r d → IsQueued z s (z.timers + i) q → q ≡ true → Taken z s r d t → TakenAgain z s i c t
   unfolding table.taken_again
-  again-queued {r} {d} {q} e h n k = shown (Tsleep r d) e (rw (own-queued i h ∙ not-false q n) k.answer)
+  again-queued {r} {d} {q} e h n k = shown (Tsleep r d) e (rw (own-queued i h ∙ n) k.answer)

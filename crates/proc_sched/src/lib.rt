@@ -1,10 +1,14 @@
 // One turn of the scheduler: the first of the run queue is dispatched, and goes on where its call left off.
+// `Limbo`, a process off the run queue and in no other place, stays a clause: a type's invariant would be owed at every store.
+// `in_interrupt` is the step's mark and not the state's: `sched` asks it once, so a struct of both would be made and taken apart at once.
+// The C interface lends the buffer for a child's message beside the state: so the two go apart.
+// A Rendez with its condition comes out of a `Resume`, a process's call out of its record: a struct of either would be made and taken apart.
 #![tactic(auto)]
 
 ghost use Rattle.std.specs.Prelude.{false, Ok};
 ghost use Rattle.state.specs.Lent.{Same};
 ghost use Rattle.proc_sched.specs.Limbo.{Limbo, Dispatched, RunsOn, AgainAsks, SleptAgain};
-ghost use Rattle.proc_sched.specs.Check.{CheckAsks, Checked, TimedOut, TsleepAsks, TsleepChecked};
+ghost use Rattle.proc_sched.specs.Check.{CheckAsks, Checked, TimedOut, Ends, TsleepAsks, TsleepChecked};
 ghost use Rattle.proc_sched.specs.Go.{GoAsks, WentOn};
 ghost use Rattle.proc_sched.specs.Taken.{TakenAsks, Taken, TakenAgainAsks, TakenAgain};
 ghost use Rattle.proc_sched.specs.Turn.{TurnAsks, Turned};
@@ -21,8 +25,8 @@ fn dispatch(s: &mut State, i: Index)
     ensures same { Same s.old s.new }
     ensures done { Dispatched s.old.sizes s.old.bytes.now s.new.bytes.now i }
 {
-    dat::lent::set_resume(s, i, Resume::Nothing);
-    dat::lent::set_up(s, i);
+    dat::set_resume(s, i, Resume::Nothing);
+    dat::set_up(s, i);
 }
 
 // The same, with the answer that it runs.
@@ -42,7 +46,7 @@ fn sleep_again(s: &mut State, i: Index, r: Index) -> Reply
     ensures same { Same s.old s.new }
     ensures done { SleptAgain s.old.sizes s.old.bytes.now s.new.bytes.now i r (Ok result) }
 {
-    dat::lent::sleep_on(s, i, r);
+    dat::sleep_on(s, i, r);
     Reply::Asleep
 }
 
@@ -64,24 +68,27 @@ fn return_tsleep(s: &mut State, i: Index) -> Reply
     ensures same { Same s.old s.new }
     ensures done { TimedOut s.old.sizes s.old.bytes.now s.new.bytes.now i (Ok result) }
 {
-    let kernel = s.sizes.timers;
-    timer::by_deadline::del(s, kernel + i);
+    let own = s.sizes.timers + i;
+    timer::by_deadline::del(s, own);
     run_on(s, i)
 }
 
-// The same for a `tsleep`, which also returns once its timer has fired.
+// Whether the `tsleep` of process `i` ends: its timer has fired, or condition `c` holds.
+fn ends(v: &View, i: Index, c: u8) -> bool
+    requires { Limbo v.now.sizes v.now.bytes.now i }
+    ensures { Ends v.now.sizes v.now.bytes.now i c result }
+{
+    let own = v.sizes.timers + i;
+    !timer::by_deadline::is_queued(v, own) || clockwork::conditions::holds(v, c)
+}
+
+// The same as `check_sleep` for a `tsleep`; one function of both would ask which of them it is, since a `sleep` has no timer.
 fn check_tsleep(s: &mut State, i: Index, r: Index, c: u8) -> Reply
     requires { TsleepAsks s.old.sizes s.old.bytes.now i r c }
     ensures same { Same s.old s.new }
     ensures done { TsleepChecked s.old.sizes s.old.bytes.now s.new.bytes.now i r c (Ok result) }
 {
-    let v = s.view();
-    let kernel = v.sizes.timers;
-    let queued = timer::by_deadline::is_queued(&v, kernel + i);
-    if !queued {
-        return return_tsleep(s, i);
-    }
-    if clockwork::conditions::holds(&v, c) {
+    if ends(&s.view(), i, c) {
         return return_tsleep(s, i);
     }
     sleep_again(s, i, r)
@@ -111,7 +118,7 @@ fn check_wait(s: &mut State, i: Index, buffer: &mut [u8]) -> Reply
 {
     let nexits = s.get(field::NEXITS, i);
     if nexits == 0 {
-        dat::lent::wait_on(s, i);
+        dat::wait_on(s, i);
         return Reply::Asleep;
     }
     finish_wait(s, i, buffer)
@@ -137,10 +144,7 @@ fn taken(v: &View, r: Index, c: u8) -> bool
     requires { TakenAsks v.now.sizes v.now.bytes.now r }
     ensures { Taken v.now.sizes v.now.bytes.now r c result }
 {
-    if clockwork::conditions::holds(v, c) {
-        return false;
-    }
-    v.get(field::SLEEPER_OF, r).is_some()
+    !clockwork::conditions::holds(v, c) && v.get(field::SLEEPER_OF, r).is_some()
 }
 
 // Whether process `i` would go on, at its call `c`, to sleep where another is asleep.
@@ -152,12 +156,9 @@ fn taken_again(v: &View, i: Index, c: Resume) -> bool
         Resume::Nothing => false,
         Resume::Sleep { rendez, condition } => taken(v, rendez, condition),
         Resume::Tsleep { rendez, condition } => {
-            let kernel = v.sizes.timers;
-            let queued = timer::by_deadline::is_queued(v, kernel + i);
-            if !queued {
-                return false;
-            }
-            taken(v, rendez, condition)
+            let own = v.sizes.timers + i;
+            let queued = timer::by_deadline::is_queued(v, own);
+            queued && taken(v, rendez, condition)
         }
         Resume::Qlock { lock: _ } => false,
         Resume::Wait => false,
@@ -170,7 +171,7 @@ fn turn(s: &mut State, i: Index, c: Resume, buffer: &mut [u8]) -> Reply
     ensures same { Same s.old s.new }
     ensures done { Turned s.old.sizes s.old.bytes.now s.new.bytes.now buffer.old buffer.new (Ok result) }
 {
-    let _ = dat::lent::next_ready(s);
+    let _ = dat::next_ready(s);
     clockwork::quantum::set_end(s, i);
     go_on(s, i, c, buffer)
 }

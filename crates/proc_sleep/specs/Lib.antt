@@ -1,5 +1,5 @@
 -- What the steps of this crate ask and ensure.
-pub mod Running
+pub mod Suspend
 pub mod Yield
 pub mod Sleep
 pub mod Qlock

@@ -1,7 +1,8 @@
 -- qlock: what the code shows at each return.
-use Rattle.std.specs.Prelude.{if◌then◌else◌, ◌≡◌, refl, Bool, true, false, not, ◌&&◌, List, [], ◌∷◌, ◌++◌, ℕ, suc, ◌<◌, Result, Ok, Err}
+use Rattle.std.specs.Prelude.{if◌then◌else◌, ◌≡◌, refl, Bool, true, false, ◌&&◌, List, [], ◌∷◌, ◌++◌, ℕ, suc, ◌<◌, Result, Ok, Err}
 use Rattle.std.proofs.Common.{sym, ap, subst, ◌∙◌, arith, lt-ltb}
 use Rattle.std.proofs.Math.Option.{none, some}
+use Rattle.std.proofs.lemmas.Bool.{and_right, not-true, not-false}
 use Rattle.machine.specs.Basics.{is_none}
 use Rattle.machine.specs.Machine as machine
 use Rattle.machine.specs.Machine.{Machine, process, lock}
@@ -25,7 +26,6 @@ use Rattle.holds.specs.Use.{same_use}
 use Rattle.holds.specs.Touched.{Touched, touched-same, touched_join, touched-did}
 use Rattle.dat.specs.Asleep.{asleep_in}
 use Rattle.dat.specs.Run.{holds-long}
-use Rattle.dat.specs.Own.{StopAsks, Stopped, CallAsks, Called}
 use Rattle.qlock.specs.Queue.{LockAsks, EnqueueAsks, Enqueued}
 use Rattle.qlock.specs.Hold.{Tried}
 use Rattle.outcome.specs.declared.Reply as code
@@ -38,7 +38,7 @@ use Rattle.outcome.specs.Refusals.{step}
 use Rattle.outcome.specs.RefusalsLock.{refusal-qlock}
 use Rattle.outcome.specs.Room.{well-room}
 use Rattle.outcome.specs.Running.{IsRunning, NotRunning, somebody-up, current-is, not-running}
-use Rattle.proc_sleep.specs.Running.{stopped-awake}
+use Rattle.proc_sleep.specs.Suspend.{SuspendAsks, Suspended}
 
 -- The running process i waits for lock q, which is held.
 pub record QueueAsks (z : Sizes) (s : List ℕ) (i q : ℕ) : Type 0 where
@@ -53,35 +53,28 @@ pub record Queued (z : Sizes) (s s' : List ℕ) (i q : ℕ) : Type 0 where
   pub machine : machine_in z s' ≡ queue_on i q (machine.in_qlock q) (machine_in z s)
   pub touched : Touched z s s'
 
-pub queue-stop : {z : Sizes} {s : List ℕ} {i q : ℕ} → QueueAsks z s i q → StopAsks z s
-queue-stop a = record { owed = 0; holds = a.holds }
-
-pub queue-call : {z : Sizes} {s s₁ : List ℕ} {i q : ℕ} → QueueAsks z s i q → Stopped z s s₁ → CallAsks z s₁ i (Qlock q)
-queue-call {z} {s} {s₁} {i} {q} a t =
+pub queue-suspend : {z : Sizes} {s : List ℕ} {i q : ℕ} → QueueAsks z s i q → SuspendAsks z s i (Qlock q)
+queue-suspend a =
     record {
-      owed = 0;
-      holds = t.did.holds 0 a.holds;
-      nowhere = t.nowhere i a.runs;
-      awake = stopped-awake a.holds t i a.runs;
+      holds = a.holds;
+      runs = a.runs;
       object = omega (arith, a.index, a.holds.sizes.locks.1);
       condition = omega arith;
     }
 
-pub queue-enqueue : {z : Sizes} {s s₁ s₂ : List ℕ} {i q : ℕ} → QueueAsks z s i q → Stopped z s s₁ → Called z s₁ s₂ i (Qlock q) → EnqueueAsks z s₂ q i
-queue-enqueue {z} {s} {s₁} {s₂} {i} {q} a t d =
+pub queue-enqueue : {z : Sizes} {s s₁ : List ℕ} {i q : ℕ} → QueueAsks z s i q → Suspended z s s₁ i (Qlock q) → EnqueueAsks z s₁ q i
+queue-enqueue {z} {s} {s₁} {i} {q} a d =
     record {
       owed = 0;
-      holds = d.did.holds 0 (t.did.holds 0 a.holds);
+      holds = d.holds;
       nowhere = d.nowhere;
       call =
           record {
-            kind = ap (λ (x : Memory). x fields.resume_kind i) d.did.memory ∙ alter-same (mem_in z s₁ fields.resume_kind) i 3;
-            object = ap (λ (x : Memory). x fields.resume_object i) d.did.memory ∙ alter-same (mem_in z s₁ fields.resume_object) i q;
+            kind = ap (λ (x : Memory). x fields.resume_kind i) d.memory ∙ alter-same (mem_in z s fields.resume_kind) i 3;
+            object = ap (λ (x : Memory). x fields.resume_object i) d.memory ∙ alter-same (mem_in z s fields.resume_object) i q;
           };
       index = a.index;
-      room =
-          subst (λ (n : ℕ). n < 65535)
-          (sym (ap (λ (x : Memory). x fields.asleep_count 0) d.did.memory ∙ ap (λ (x : Memory). x fields.asleep_count 0) t.did.memory)) a.room;
+      room = subst (λ (n : ℕ). n < 65535) (sym (ap (λ (x : Memory). x fields.asleep_count 0) d.memory)) a.room;
     }
 
 -- The machine then, in whatever order.
@@ -98,22 +91,16 @@ queue_on_lem m i q c x e h =
     h
 
 pub queued
-    : {z : Sizes} {s s₁ s₂ s₃ : List ℕ} {i q : ℕ}
+    : {z : Sizes} {s s₁ s₂ : List ℕ} {i q : ℕ}
     → QueueAsks z s i q
-    → Stopped z s s₁
-    → Called z s₁ s₂ i (Qlock q)
-    → Enqueued z s₂ s₃ q i
-    → Queued z s s₃ i q
-queued {z} {s} {s₁} {s₂} {s₃} {i} {q} a t d p =
+    → Suspended z s s₁ i (Qlock q)
+    → Enqueued z s₁ s₂ q i
+    → Queued z s s₂ i q
+queued {z} {s} {s₁} {s₂} {i} {q} a d p =
     record {
-      holds = p.did.holds 0 (d.did.holds 0 (t.did.holds 0 a.holds));
-      machine =
-          p.did.machine
-          ∙ queue_on_lem (machine_in z s) i q (machine.in_qlock q) (machine_in z s₂)
-          (d.did.machine ∙ ap (λ (x : Machine). with_process i (with_resume (machine.in_qlock q) (process x i)) x) t.did.machine)
-          a.held;
-      touched =
-          touched_join (touched_join (touched-did t.did (same_use refl refl refl refl refl refl refl refl refl)) (touched-did d.did (same_use refl refl refl refl refl refl refl refl refl))) (touched-did p.did (same_use refl refl refl refl refl refl refl refl refl));
+      holds = p.did.holds 0 d.holds;
+      machine = p.did.machine ∙ queue_on_lem (machine_in z s) i q (machine.in_qlock q) (machine_in z s₁) d.machine a.held;
+      touched = touched_join d.touched (touched-did p.did (same_use refl refl refl refl refl refl refl refl refl));
     }
 
 -- qlock
@@ -137,22 +124,6 @@ qlock-number
 unfolding machine_of in_range held_lock
 qlock-number {z} {s} {q} k a = refusal-qlock (machine_in z s) k q ∙ rw (lt-ltb q z.locks a.index)
 
-not-held : (b : Bool) → true ≡ not b → b ≡ false
-not-held false e = refl
-not-held true e = e
-
-is_held : (b : Bool) → false ≡ not b → b ≡ true
-is_held true e = refl
-is_held false e = e
-
-off : (b : Bool) → (b && false) ≡ false
-off true = refl
-off false = refl
-
-on : (b : Bool) → (b && true) ≡ b
-on true = refl
-on false = refl
-
 qlock-free : (m : Machine) (q : ℕ) → (lock m q).held ≡ false
     → ((perform (qlock q) m).reply ≡ answer Answer.done) × ((perform (qlock q) m).after ≡ with_lock q (record { held = true; waiters = (lock m q).waiters }) m)
 unfolding open_perform open_outcome
@@ -166,13 +137,13 @@ qlock-held m q i e u = (rw e, rw e (ap (λ (j : ℕ). queue_on j q (machine.in_q
 pub qlock-done : {z : Sizes} {s s₁ : List ℕ} {q : ℕ} {k t : Bool} → QlockAsks z s q → Tried z s s₁ q t → t ≡ true → QlockTook z s s₁ k q (Ok Done)
 unfolding means told
 qlock-done {z} {s} {s₁} {q} {k} {t} a w e =
-    let h : (lock (machine_in z s) q).held ≡ false = not-held (lock (machine_in z s) q).held (sym e ∙ w.answer) in
+    let h : (lock (machine_in z s) q).held ≡ false = not-true (lock (machine_in z s) q).held (sym w.answer ∙ e) in
     let p : ((perform (qlock q) (machine_in z s)).reply ≡ answer Answer.done) × ((perform (qlock q) (machine_in z s)).after ≡ with_lock q (record { held = true; waiters = (lock (machine_in z s) q).waiters }) (machine_in z s)) =
     qlock-free (machine_in z s) q h
     in
     record {
       stepped =
-          stepped-done (qlock-number k a ∙ rw (h, off k, off (is_none (machine_in z s).up))) ((w.yes e).holds 0 a.well.holds)
+          stepped-done (qlock-number k a ∙ rw (h, and_right k false refl, and_right (is_none (machine_in z s).up) false refl)) ((w.yes e).holds 0 a.well.holds)
           (touched-did (w.yes e) (same_use refl refl refl refl refl refl refl refl refl)).spares (sym p.0) (ap told (sym p.0))
           ((w.yes e).machine ∙ sym p.1);
     }
@@ -183,7 +154,7 @@ record Busy (z : Sizes) (s s₁ : List ℕ) (q : ℕ) : Type 0 where
   same : s₁ ≡ s
 
 busy : {z : Sizes} {s s₁ : List ℕ} {q : ℕ} {t : Bool} → Tried z s s₁ q t → t ≡ false → Busy z s s₁ q
-busy {z} {s} {s₁} {q} w e = record { held = is_held (lock (machine_in z s) q).held (sym e ∙ w.answer); same = w.no e }
+busy {z} {s} {s₁} {q} w e = record { held = not-false (lock (machine_in z s) q).held (sym w.answer ∙ e); same = w.no e }
 
 -- Who runs is looked for in the bytes as they were.
 pub qlock-long : {z : Sizes} {s s₁ : List ℕ} {q : ℕ} {t : Bool} → QlockAsks z s q → Tried z s s₁ q t → t ≡ false → Long z s₁

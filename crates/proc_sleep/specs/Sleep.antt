@@ -1,5 +1,5 @@
 -- sleep: what the code shows at each return.
-use Rattle.std.specs.Prelude.{if◌then◌else◌, ◌≡◌, refl, Bool, true, false, not, ◌&&◌, List, [], ◌⊎◌, ℕ, suc, ◌-◌, ◌≤◌, ◌<◌, Option, None, Some, is_some, Result, Ok, Err}
+use Rattle.std.specs.Prelude.{if◌then◌else◌, ◌≡◌, refl, Bool, true, false, not, ◌&&◌, List, [], ◌⊎◌, ℕ, suc, ◌-◌, ◌≤◌, ◌<◌, Result, Ok, Err}
 use Rattle.std.proofs.Common.{sym, ap, subst, ◌∙◌, inl, arith, lt-ltb}
 use Rattle.std.proofs.Math.Option.{none, some}
 use Rattle.machine.specs.Basics.{is_none}
@@ -12,7 +12,6 @@ use Rattle.machine.specs.Update.{with_up, with_sleeper, with_process, with_resum
 use Rattle.machine.specs.Places.{sleep_on}
 use Rattle.machine.specs.Perform.{perform, open_perform}
 use Rattle.machine.specs.StepOf.{left_by}
-use Rattle.memory.specs.Link.{link}
 use Rattle.layout.specs.Memory.{Memory}
 use Rattle.chain.specs.Links.{alter-same}
 use Rattle.state.specs.Fields as fields
@@ -30,7 +29,6 @@ use Rattle.holds.specs.Did.{machine_in}
 use Rattle.holds.specs.Use.{same_use}
 use Rattle.holds.specs.Touched.{Touched, spares-none, touched_join, touched-did}
 use Rattle.dat.specs.Asleep.{asleep_in}
-use Rattle.dat.specs.Own.{StopAsks, Stopped, CallAsks, Called}
 use Rattle.dat.specs.Rendez.{SleepAsks, Slept}
 use Rattle.timer.specs.Only.{Owing}
 use Rattle.clockwork.specs.Conditions.{Condition}
@@ -45,7 +43,7 @@ use Rattle.outcome.specs.Refusals.{step}
 use Rattle.outcome.specs.RefusalsRun.{refusal-sleep, taken_true, taken_free, taken-there}
 use Rattle.outcome.specs.Room.{well-room}
 use Rattle.outcome.specs.Running.{IsRunning, NotRunning, somebody-up, current-is, not-running}
-use Rattle.proc_sleep.specs.Running.{stopped-awake}
+use Rattle.proc_sleep.specs.Suspend.{SuspendAsks, Suspended}
 
 -- The running process i goes asleep on Rendez r, where nobody is, with a call that is a `sleep` or `tsleep` there.
 pub record OffAsks (z : Sizes) (s : List ℕ) (i r : ℕ) (c : Resume) : Type 0 where
@@ -63,39 +61,31 @@ pub record FellAsleep (z : Sizes) (s s' : List ℕ) (i r : ℕ) (c : Resume) : T
   pub machine : machine_in z s' ≡ sleep_on i r (meaning c) (machine_in z s)
   pub touched : Touched z s s'
 
-pub off-stop : {z : Sizes} {s : List ℕ} {i r : ℕ} {c : Resume} → OffAsks z s i r c → StopAsks z s
-off-stop a = record { owed = 0; holds = a.holds }
-
-pub off-call : {z : Sizes} {s s₁ : List ℕ} {i r : ℕ} {c : Resume} → OffAsks z s i r c → Stopped z s s₁ → CallAsks z s₁ i c
-off-call {z} {s} {s₁} {i} {r} {c} a t =
+pub off-suspend : {z : Sizes} {s : List ℕ} {i r : ℕ} {c : Resume} → OffAsks z s i r c → SuspendAsks z s i c
+off-suspend a =
     record {
-      owed = 0;
-      holds = t.did.holds 0 a.holds;
-      nowhere = t.nowhere i a.runs;
-      awake = stopped-awake a.holds t i a.runs;
+      holds = a.holds;
+      runs = a.runs;
       object = omega (arith, a.object, a.index, a.holds.sizes.rendez.1);
       condition = a.condition;
     }
 
-pub off-sleep : {z : Sizes} {s s₁ s₂ : List ℕ} {i r : ℕ} {c : Resume} → OffAsks z s i r c → Stopped z s s₁ → Called z s₁ s₂ i c → SleepAsks z s₂ i r
-off-sleep {z} {s} {s₁} {s₂} {i} {r} {c} a t d =
-    let k : mem_in z s₂ fields.resume_kind i ≡ number_of c =
-    ap (λ (x : Memory). x fields.resume_kind i) d.did.memory ∙ alter-same (mem_in z s₁ fields.resume_kind) i (number_of c)
+pub off-sleep : {z : Sizes} {s s₁ : List ℕ} {i r : ℕ} {c : Resume} → OffAsks z s i r c → Suspended z s s₁ i c → SleepAsks z s₁ i r
+off-sleep {z} {s} {s₁} {i} {r} {c} a d =
+    let k : mem_in z s₁ fields.resume_kind i ≡ number_of c =
+    ap (λ (x : Memory). x fields.resume_kind i) d.memory ∙ alter-same (mem_in z s fields.resume_kind) i (number_of c)
     in
-    let o : mem_in z s₂ fields.resume_object i ≡ object_of c =
-    ap (λ (x : Memory). x fields.resume_object i) d.did.memory ∙ alter-same (mem_in z s₁ fields.resume_object) i (object_of c)
+    let o : mem_in z s₁ fields.resume_object i ≡ object_of c =
+    ap (λ (x : Memory). x fields.resume_object i) d.memory ∙ alter-same (mem_in z s fields.resume_object) i (object_of c)
     in
     record {
       owed = 0;
-      holds = d.did.holds 0 (t.did.holds 0 a.holds);
+      holds = d.holds;
       nowhere = d.nowhere;
       call = record { kind = subst (λ (x : ℕ). (x ≡ 1) ⊎ (x ≡ 2)) (sym k) a.kind; object = o ∙ a.object };
       index = a.index;
-      empty =
-          ap (λ (x : Memory). x fields.sleeper_of r) d.did.memory ∙ ap (λ (x : Memory). x fields.sleeper_of r) t.did.memory ∙ a.empty;
-      room =
-          subst (λ (n : ℕ). n < 65535)
-          (sym (ap (λ (x : Memory). x fields.asleep_count 0) d.did.memory ∙ ap (λ (x : Memory). x fields.asleep_count 0) t.did.memory)) a.room;
+      empty = ap (λ (x : Memory). x fields.sleeper_of r) d.memory ∙ a.empty;
+      room = subst (λ (n : ℕ). n < 65535) (sym (ap (λ (x : Memory). x fields.asleep_count 0) d.memory)) a.room;
     }
 
 -- Taken off, given its call and put on the Rendez, in whatever order.
@@ -104,21 +94,16 @@ unfolding sleep_on with_sleeper with_process with_up process
 sleep_on_lem m i r c = refl
 
 pub fell_asleep
-    : {z : Sizes} {s s₁ s₂ s₃ : List ℕ} {i r : ℕ} {c : Resume}
+    : {z : Sizes} {s s₁ s₂ : List ℕ} {i r : ℕ} {c : Resume}
     → OffAsks z s i r c
-    → Stopped z s s₁
-    → Called z s₁ s₂ i c
-    → Slept z s₂ s₃ i r
-    → FellAsleep z s s₃ i r c
-fell_asleep {z} {s} {s₁} {s₂} {s₃} {i} {r} {c} a t d p =
+    → Suspended z s s₁ i c
+    → Slept z s₁ s₂ i r
+    → FellAsleep z s s₂ i r c
+fell_asleep {z} {s} {s₁} {s₂} {i} {r} {c} a d p =
     record {
-      holds = p.did.holds 0 (d.did.holds 0 (t.did.holds 0 a.holds));
-      machine =
-          p.did.machine
-          ∙ ap (with_sleeper r (some i)) (d.did.machine ∙ ap (λ (x : Machine). with_process i (with_resume (meaning c) (process x i)) x) t.did.machine)
-          ∙ sleep_on_lem (machine_in z s) i r (meaning c);
-      touched =
-          touched_join (touched_join (touched-did t.did (same_use refl refl refl refl refl refl refl refl refl)) (touched-did d.did (same_use refl refl refl refl refl refl refl refl refl))) (touched-did p.did (same_use refl refl refl refl refl refl refl refl refl));
+      holds = p.did.holds 0 d.holds;
+      machine = p.did.machine ∙ ap (with_sleeper r (some i)) d.machine ∙ sleep_on_lem (machine_in z s) i r (meaning c);
+      touched = touched_join d.touched (touched-did p.did (same_use refl refl refl refl refl refl refl refl refl));
     }
 
 -- sleep
@@ -181,15 +166,6 @@ false-asks a l h e = record { asks = a; low = l; false_now = sym h.answer ∙ e 
 
 pub sleep-rest : {z : Sizes} {s s₁ : List ℕ} {r c : ℕ} {k : Bool} {a : Result code.Reply Refusal} → k ≡ false → SleepTook z s s₁ false r c a → SleepTook z s s₁ k r c a
 sleep-rest {z} {s} {s₁} {r} {c} {k} {a} e t = subst (λ (x : Bool). SleepTook z s s₁ x r c a) (sym e) t
-
--- Whether somebody is, by the link.
-pub none-there : (o : Option ℕ) → is_some o ≡ false → link o ≡ 0
-none-there None e = refl
-none-there (Some i) e = absurd (true-false e)
-
-pub some-there : (o : Option ℕ) → is_some o ≡ true → link o ≡ 0 → ⊥
-some-there None e = λ _. absurd (true-false (sym e))
-some-there (Some i) e = λ q. absurd (omega (arith, q))
 
 -- another is asleep there
 pub sleep-taken

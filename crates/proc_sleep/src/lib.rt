@@ -1,10 +1,14 @@
 // The steps by which the running process gives up the CPU: yield, sleep, qlock.
+// `Well` stays a clause: a step breaks it midway, and a type's invariant would be owed at every store.
+// `in_interrupt` is the step's mark and not the state's: each step asks it once, so a struct of both would be made and taken apart at once.
+// A Rendez and a condition come from a step's fields and go into a `Resume`: a struct of both would be a third form of the two.
 #![tactic(auto)]
 
 ghost use Rattle.std.specs.Prelude.{false};
 ghost use Rattle.state.specs.Lent.{Same};
 ghost use Rattle.outcome.specs.Stepped.{Well};
 ghost use Rattle.proc_sleep.specs.Yield.{Yielded};
+ghost use Rattle.proc_sleep.specs.Suspend.{SuspendAsks, Suspended};
 ghost use Rattle.proc_sleep.specs.Sleep.{OffAsks, FellAsleep, FalseAsks, SleepStepAsks, SleepTook};
 ghost use Rattle.proc_sleep.specs.Qlock.{QueueAsks, Queued, QlockAsks, QlockTook};
 
@@ -18,10 +22,20 @@ pub fn yield_now(s: &mut State, in_interrupt: bool) -> Result<Reply, Refusal>
     ensures same { Same s.old s.new }
     ensures done { Yielded s.old.sizes s.old.bytes.now s.new.bytes.now in_interrupt result }
 {
-    let i = outcome::lent::running(&s.view(), in_interrupt)?;
-    dat::lent::stop(s);
-    dat::lent::ready(s, i);
+    let i = outcome::running(&s.view(), in_interrupt)?;
+    dat::stop(s);
+    dat::ready(s, i);
     Ok(Reply::Done)
+}
+
+// The running process `i` leaves the CPU in the middle of a call, which goes on at `resume`. Who calls it puts `i` where it waits.
+pub fn suspend(s: &mut State, i: Index, resume: Resume)
+    requires { SuspendAsks s.old.sizes s.old.bytes.now i resume }
+    ensures same { Same s.old s.new }
+    ensures done { Suspended s.old.sizes s.old.bytes.now s.new.bytes.now i resume }
+{
+    dat::stop(s);
+    dat::set_resume(s, i, resume);
 }
 
 // The running process `i` goes asleep on Rendez `r`, its call to go on at `resume`.
@@ -30,12 +44,12 @@ pub fn fall_asleep(s: &mut State, i: Index, r: Index, resume: Resume)
     ensures same { Same s.old s.new }
     ensures done { FellAsleep s.old.sizes s.old.bytes.now s.new.bytes.now i r resume }
 {
-    dat::lent::stop(s);
-    dat::lent::set_resume(s, i, resume);
-    dat::lent::sleep_on(s, i, r);
+    suspend(s, i, resume);
+    dat::sleep_on(s, i, r);
 }
 
 // Sleeps on Rendez `r` while condition `c` is false.
+// No one function with `proc_timer::sleep_for`: here who runs is asked for after the Rendez, there before the clock and the timer.
 fn sleep_false(s: &mut State, r: Index, c: u8) -> Result<Reply, Refusal>
     requires { FalseAsks s.old.sizes s.old.bytes.now r c }
     ensures same { Same s.old s.new }
@@ -44,7 +58,7 @@ fn sleep_false(s: &mut State, r: Index, c: u8) -> Result<Reply, Refusal>
     if s.get(field::SLEEPER_OF, r).is_some() {
         return Err(Refusal::RendezTaken);
     }
-    let i = outcome::lent::up(&s.view())?;
+    let i = outcome::up(&s.view())?;
     fall_asleep(
         s,
         i,
@@ -78,9 +92,8 @@ fn wait_for(s: &mut State, i: Index, q: Index)
     ensures same { Same s.old s.new }
     ensures done { Queued s.old.sizes s.old.bytes.now s.new.bytes.now i q }
 {
-    dat::lent::stop(s);
-    dat::lent::set_resume(s, i, Resume::Qlock { lock: q });
-    qlock::lent::enqueue(s, q, i);
+    suspend(s, i, Resume::Qlock { lock: q });
+    qlock::enqueue(s, q, i);
 }
 
 // Takes lock `q`, or waits for it.
@@ -89,10 +102,10 @@ pub fn qlock(s: &mut State, in_interrupt: bool, q: Index) -> Result<Reply, Refus
     ensures same { Same s.old s.new }
     ensures done { QlockTook s.old.sizes s.old.bytes.now s.new.bytes.now in_interrupt q result }
 {
-    if qlock::lent::canqlock(s, q) {
+    if qlock::canqlock(s, q) {
         return Ok(Reply::Done);
     }
-    let i = outcome::lent::running(&s.view(), in_interrupt)?;
+    let i = outcome::running(&s.view(), in_interrupt)?;
     wait_for(s, i, q);
     Ok(Reply::Asleep)
 }

@@ -1,10 +1,11 @@
 -- A new process, ready: what `begin` asks and ensures.
 use Rattle.std.specs.Prelude.{◌≡◌, refl, List, ℕ, suc, ◌≤◌, ◌<◌}
 use Rattle.std.proofs.Common.{sym, ap, subst, ◌∙◌, arith}
-use Rattle.std.proofs.Math.Option.{none, some}
+use Rattle.std.proofs.Math.Option.{some, none-ne-some}
 use Rattle.machine.specs.Exits.{free_record}
 use Rattle.machine.specs.Places.{ready}
 use Rattle.machine.specs.Perform.{made}
+use Rattle.memory.specs.Link.{link}
 use Rattle.state.specs.Fields as fields
 use Rattle.state.specs.Places.{mem_in}
 use Rattle.state.specs.declared.Sizes.{Sizes}
@@ -26,7 +27,7 @@ pub record BeginAsks (z : Sizes) (s : List ℕ) (p : Proc) : Type 0 where
   pub at : ℕ
   pub free : free_record (machine_in z s) ≡ some at
   pub pid : mem_in z s fields.next_pid 0 < 18446744073709551615
-  pub link : p.parent_at ≤ z.processes
+  pub link : link p.parent_at ≤ z.processes
   pub text : IsName p.text
 
 pub record Begun (z : Sizes) (s s' : List ℕ) (p : Proc) : Type 0 where
@@ -38,12 +39,9 @@ pub record Begun (z : Sizes) (s s' : List ℕ) (p : Proc) : Type 0 where
 pub begin-alloc : {z : Sizes} {s : List ℕ} {p : Proc} → BeginAsks z s p → AllocAsks z s p
 begin-alloc a = record { owed = 0; holds = a.holds; new = a.new; room = a.pid; link = a.link; text = a.text }
 
-none-some : {n : ℕ} → none ≡ some n → ⊥
-none-some e = let d : ◌≡◌ {A = ℕ} 0 1 = cc in omega arith
-
 -- A record is free, so `alloc` finds one.
 pub begin-link : {z : Sizes} {s s₁ : List ℕ} {p : Proc} {r : ℕ} → BeginAsks z s p → Allocated z s s₁ p r → r ≡ 0 → ⊥
-begin-link a l e = none-some (sym (l.none e).0 ∙ a.free)
+begin-link a l e = none-ne-some a.at (sym (l.none e).0 ∙ a.free)
 
 module _ {z : Sizes} {s s₁ : List ℕ} {p : Proc} {i : ℕ} (a : BeginAsks z s p) (l : Allocated z s s₁ p (suc i)) where
   made_one : AllocOne z s s₁ p i

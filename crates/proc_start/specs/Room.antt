@@ -1,9 +1,8 @@
 -- Room for a new process: a free record, and a pid.
-use Rattle.std.specs.Prelude.{◌≡◌, Bool, true, false, Option, None, Some, is_some, List, [], ◌⊎◌, ℕ, suc, ◌-◌, ◌^◌, ◌<◌, eqb, Err}
+use Rattle.std.specs.Prelude.{◌≡◌, Bool, true, false, List, [], ◌⊎◌, ℕ, suc, ◌-◌, ◌^◌, ◌<◌, eqb, Err}
 use Rattle.std.proofs.Common.{subst, sym, ap, ◌∙◌, inl, inr, arith, eq-eqb, ne_eqb}
 use Rattle.std.proofs.Math.Option.{none, some}
 use Rattle.std.proofs.Math.Path.{refl}
-use Rattle.memory.specs.Link.{link}
 use Rattle.machine.specs.Step.{Body}
 use Rattle.machine.specs.Table.{refusal}
 use Rattle.machine.specs.Exits.{free_record}
@@ -13,7 +12,6 @@ use Rattle.state.specs.Abs.{link_to, machine_of}
 use Rattle.state.specs.Places.{mem_in}
 use Rattle.state.specs.declared.Sizes.{Sizes}
 use Rattle.exact.specs.Bounds.{at_most}
-use Rattle.exact.specs.Sums.{true-false}
 use Rattle.holds.specs.Holds.{Holds}
 use Rattle.holds.specs.Whole.{holds-bounds}
 use Rattle.holds.specs.Did.{machine_in}
@@ -40,11 +38,6 @@ NoRoom z s e =
 
 pub start_find : {z : Sizes} {s : List ℕ} → Well z s → RecordsIn z s (mem_in z s fields.pid)
 start_find w = records_in w.holds.sizes w.holds.state w.holds.keeps.index
-
--- A record that is found has a number.
-pub found-there : (o : Option ℕ) → is_some o ≡ true → link o ≡ 0 → ⊥
-found-there None e d = true-false (sym e)
-found-there (Some i) e d = omega (arith, d)
 
 pub found_some : {z : Sizes} {s : List ℕ} {l : ℕ} → RecordFound z s l → (l ≡ 0 → ⊥) → free_record (machine_in z s) ≡ some (l - 1)
 found_some {z} {s} {l} r ne = sym r.machine ∙ ap link_to next

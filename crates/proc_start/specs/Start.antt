@@ -1,11 +1,12 @@
 -- start: what the code shows at each return.
-use Rattle.std.specs.Prelude.{◌≡◌, refl, Bool, true, false, List, [], ℕ, ◌≤◌, replicate, Result, Ok, Err}
+use Rattle.std.specs.Prelude.{◌≡◌, refl, Bool, true, false, None, List, [], ℕ, ◌≤◌, replicate, Result, Ok, Err}
 use Rattle.std.proofs.Common.{sym, ap, ap₂, subst, ◌∙◌, arith, eq-eqb, ne_eqb, le-leb}
 use Rattle.machine.specs.Step.{start, open_step}
 use Rattle.machine.specs.Table.{in_range, open_table}
 use Rattle.machine.specs.Outcome.{Answer, answer, open_outcome}
 use Rattle.machine.specs.Perform.{made, open_perform}
 use Rattle.machine.specs.StepOf.{left_by}
+use Rattle.memory.specs.Link.{link}
 use Rattle.state.specs.declared.Sizes.{Sizes}
 use Rattle.record.specs.declared.Proc.{Proc}
 use Rattle.holds.specs.Whole.{holds-bounds}
@@ -29,7 +30,7 @@ use Rattle.proc_start.specs.Begin.{BeginAsks, Begun}
 -- No parent, and a name of zeros.
 pub record Orphan (p : Proc) : Type 0 where
   pub parent : p.parent ≡ 0
-  pub link : p.parent_at ≡ 0
+  pub link : p.parent_at ≡ None
   pub text : p.text ≡ replicate 28 0
 
 -- start
@@ -78,11 +79,11 @@ module _ {z : Sizes} {s : List ℕ} {how : Making} {k : Bool} {p : ℕ} (a : Sta
   start-begin {q} o =
       record {
         holds = a.well.holds;
-        new = newcomer_orphan (holds-bounds a.well.holds) a.well.good o.parent o.link;
+        new = newcomer_orphan (holds-bounds a.well.holds) a.well.good o.parent (ap link o.link);
         at = r.at;
         free = r.free;
         pid = omega (arith, r.next, r.left);
-        link = omega (arith, o.link);
+        link = omega (arith, ap link o.link);
         text = subst IsName (sym o.text) empty_name;
       }
 

@@ -12,7 +12,7 @@ ghost use Rattle.proc_start.specs.Start.{Orphan, StartAsks, Started};
 
 use outcome::{Refusal, Reply};
 use record::{Proc, Resume};
-use state::{State, View, field};
+use state::{ProcState, State, View, field};
 
 // How the making of a process ends, by the numbers that `start` and `rfork` give it (docs/STEPS.md). All but the first end it with ENOVMEM.
 #[derive(Clone, Copy, Debug, PartialEq, Eq)]
@@ -57,7 +57,7 @@ impl TryFrom<u64> for Making {
     }
 }
 
-// A new process's record: no parent, no name.
+// A new process's record: no parent, no name. The name is an array of zeros, as the fixed memory of a state has it.
 fn newproc() -> Proc
     ensures { Orphan result }
 {
@@ -66,14 +66,14 @@ fn newproc() -> Proc
         pid: 0,
         parent: 0,
         quantum_end: 0,
-        next: 0,
-        older: 0,
-        younger: 0,
-        parent_at: 0,
+        next: None,
+        older: None,
+        younger: None,
+        parent_at: None,
         nchild: 0,
-        exits: 0,
+        exits: None,
         nexits: 0,
-        state: 0,
+        state: ProcState::Free.number(),
         resume: Resume::Nothing,
         text,
     }
@@ -85,10 +85,10 @@ pub fn begin(s: &mut State, p: Proc)
     ensures same { Same s.old s.new }
     ensures done { Begun s.old.sizes s.old.bytes.now s.new.bytes.now p }
 {
-    let Some(i) = records::lent::alloc(s, p) else {
+    let Some(i) = records::alloc(s, p) else {
         unreachable!()
     };
-    dat::lent::ready(s, i);
+    dat::ready(s, i);
 }
 
 // The pid that the next process gets; refused where no record is free for it, and else where no pid is left.
@@ -97,7 +97,7 @@ pub fn new_pid(v: &View) -> Result<u64, Refusal>
     ensures ok { IfOk result (Room v.now.sizes v.now.bytes.now) }
     ensures err { IfErr result (NoRoom v.now.sizes v.now.bytes.now) }
 {
-    if free::lent::find_record(v).is_none() {
+    if free::find_record(v).is_none() {
         return Err(Refusal::NoFreeRecord);
     }
     let pid = v.get(field::NEXT_PID, 0);
@@ -107,7 +107,7 @@ pub fn new_pid(v: &View) -> Result<u64, Refusal>
     Ok(pid)
 }
 
-// Makes a process.
+// Makes a process. Whether an interrupt is being served stands beside the state: it is of this step, and the lent bytes do not say it.
 pub fn start(s: &mut State, in_interrupt: bool, how: Making) -> Result<Reply, Refusal>
     requires { StartAsks s.old.sizes s.old.bytes.now how }
     ensures same { Same s.old s.new }

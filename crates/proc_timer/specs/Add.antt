@@ -1,6 +1,6 @@
 -- tadd: what it asks and ensures, and what the code shows.
 use Rattle.std.specs.Prelude.{◌≡◌, refl, Bool, true, false, ◌&&◌, List, [], ℕ, ◌+◌, ◌≤◌, ◌<◌, eqb, Result, Ok, Err}
-use Rattle.std.proofs.Common.{ap, ◌∙◌, Fits, lt-ltb, le-leb}
+use Rattle.std.proofs.Common.{ap, ◌∙◌, arith, Fits, lt-ltb, le-leb}
 use Rattle.std.proofs.Math.Bool.{and-false}
 use Rattle.std.specs.Int.{w64}
 use Rattle.clock.specs.declared.Duration.{Duration}
@@ -24,10 +24,11 @@ use Rattle.outcome.specs.Stepped.{Well, Stepped, left_bytes}
 use Rattle.outcome.specs.Laws.{stepped-done, stepped-refused}
 use Rattle.outcome.specs.Refusals.{step}
 use Rattle.outcome.specs.RefusalsTime.{refusal-tadd}
+use Rattle.proc_timer.specs.declared.Deadline.{Deadline}
 use Rattle.proc_timer.specs.declared.Kind.{Kind}
 use Rattle.proc_timer.specs.Kinds.{kind_number, kind_low}
 use Rattle.proc_timer.specs.Set.{period_for, SetAsks, SetAfter}
-use Rattle.proc_timer.specs.Counting.{number_for, CountedTo, NotCounted}
+use Rattle.proc_timer.specs.Counting.{number_for, CountedTo, DeadlineFor, NotCounted}
 
 -- The state is well formed, t is a kernel timer other than timer 0, the duration one, and r a Rendez.
 pub record TaddAsks (z : Sizes) (s : List ℕ) (t : ℕ) (d : Duration) (r : ℕ) : Type 0 where
@@ -81,31 +82,33 @@ tadd-refused {z} {s} {t} kind {d} {r} {n} {e} a c =
     record { stepped = λ k. stepped-refused (tadd-number kind a c.secs c.reading k ∙ c.number) a.well.holds (rw o) (rw o) }
 
 pub tadd-set
-    : {z : Sizes} {s : List ℕ} {t : ℕ} (kind : Kind) {d : Duration} {r n counts : ℕ}
+    : {z : Sizes} {s : List ℕ} {t : ℕ} (kind : Kind) {d : Duration} {r n : ℕ} {at : Deadline}
     → TaddAsks z s t d r
-    → CountedTo z s (kind_number kind) d n counts
-    → SetAsks z s t r n counts
+    → DeadlineFor z s (kind_number kind) d n at
+    → SetAsks z s t r at.reading at.counts
 tadd-set kind a c =
     record {
       owing = record { owed = 0; holds = a.well.holds };
       index = a.index;
       there = a.there;
-      small = c.lasts.small;
-      few = c.lasts.few;
+      small = omega (arith, c.reading, c.counted.lasts.small);
+      few = c.counted.lasts.few;
     }
 
 pub tadd-done
-    : {z : Sizes} {s s₁ : List ℕ} {t : ℕ} (kind : Kind) {d : Duration} {r n counts : ℕ}
+    : {z : Sizes} {s s₁ : List ℕ} {t : ℕ} (kind : Kind) {d : Duration} {r n : ℕ} {at : Deadline}
     → TaddAsks z s t d r
-    → CountedTo z s (kind_number kind) d n counts
-    → SetAfter z s s₁ t (kind_number kind) r n counts
+    → DeadlineFor z s (kind_number kind) d n at
+    → SetAfter z s s₁ t (kind_number kind) r at.reading at.counts
     → Tadded z s s₁ t (kind_number kind) d r n (Ok Done)
 unfolding open_perform open_outcome means told machine_of
-tadd-done {z} {s} {s₁} {t} kind {d} {r} {n} {counts} a c y =
+tadd-done {z} {s} {s₁} {t} kind {d} {r} {n} {at} a h y =
     let m : Machine = machine_in z s in
+    let c : CountedTo z s (kind_number kind) d n at.counts = h.counted in
     record {
       stepped = λ k.
           stepped-done (tadd-number kind a c.secs c.reading k ∙ c.number) (y.holds 0 a.well.holds) y.spares refl refl
           (y.machine
+          ∙ ap (λ (x : ℕ). add t (x + at.counts) (with_setting t (setting_of (period_for (kind_number kind) at.counts) r) (with_last_now x m))) h.reading
           ∙ ap (λ (v : ℕ). add t (n + v) (with_setting t (setting_of (period_for (kind_number kind) v) r) (with_last_now n m))) c.lasts.counts);
     }

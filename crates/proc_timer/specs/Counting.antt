@@ -1,5 +1,5 @@
 -- How many counts a duration takes, or the number that it and a reading of the clock meet.
-use Rattle.std.specs.Prelude.{if◌then◌else◌, ◌≡◌, Bool, true, false, List, ℕ, ◌≤◌, ◌<◌, ltb}
+use Rattle.std.specs.Prelude.{if◌then◌else◌, ◌≡◌, refl, Bool, true, false, List, ℕ, ◌≤◌, ◌<◌, ltb}
 use Rattle.std.proofs.Common.{sym, ap, ◌∙◌, Fits, subst, lt-ltb, le-ltb}
 use Rattle.std.proofs.Math.Option.{Option, none, some}
 use Rattle.std.specs.Int.{w64}
@@ -15,6 +15,7 @@ use Rattle.outcome.specs.declared.Refusal.{Refusal}
 use Rattle.outcome.specs.declared.Refusal.TheVariants.{ShortDuration, BadReading, TooManyCounts}
 use Rattle.outcome.specs.Means.{number}
 use Rattle.outcome.specs.RefusalsTime.{too_short}
+use Rattle.proc_timer.specs.declared.Deadline.{Deadline}
 use Rattle.proc_timer.specs.declared.Kind.{Kind}
 use Rattle.proc_timer.specs.declared.Kind.TheVariants.{Relative, Periodic}
 use Rattle.proc_timer.specs.Kinds.{kind_number}
@@ -46,6 +47,11 @@ pub record CountedTo (z : Sizes) (s : List ℕ) (kind : ℕ) (d : Duration) (n c
   pub secs : Fits w64 d.secs
   pub reading : Fits w64 n
 
+-- The deadline is so many counts after the reading.
+pub record DeadlineFor (z : Sizes) (s : List ℕ) (kind : ℕ) (d : Duration) (n : ℕ) (at : Deadline) : Type 0 where
+  pub reading : at.reading ≡ n
+  pub counted : CountedTo z s kind d n at.counts
+
 -- The number of a refusal is met.
 pub record NotCounted (z : Sizes) (s : List ℕ) (kind : ℕ) (d : Duration) (n : ℕ) (e : Refusal) : Type 0 where
   pub number : number_for (machine_in z s) kind d.secs d.nanos n ≡ some (number e)
@@ -61,7 +67,7 @@ long-is
 unfolding machine_of long_counts
 long-is z s d e p = ap (λ (x : ℕ). ltb 9223372036854775807 x) (sym e) ∙ p
 
--- What the code of `counts_of` shows at each return.
+-- What the code of `deadline_of` shows at each return.
 pub counted_7
     : {z : Sizes} {s : List ℕ} {kind : ℕ} {d : Duration} {n : ℕ} {b : Bool}
     → Fits w64 d.secs
@@ -110,11 +116,20 @@ pub counted-all
     → c ≡ false
     → counts ≡ counts_of z.hz d.secs d.nanos
     → counts ≤ 9223372036854775807
-    → CountedTo z s kind d n counts
+    → DeadlineFor z s kind d n (record { reading = n; counts = counts })
 counted-all {z} {s} {kind} {d} {n} {counts} x y h e q f v l =
     record {
-      number = rw (sym h.answer ∙ e, sym q.answer ∙ f, long-is z s d v (le-ltb 9223372036854775807 counts l));
-      lasts = record { counts = v; few = l; small = q.small f };
-      secs = x;
-      reading = y;
+      reading = refl;
+      counted =
+          record {
+            number = rw (sym h.answer ∙ e, sym q.answer ∙ f, long-is z s d v (le-ltb 9223372036854775807 counts l));
+            lasts = record { counts = v; few = l; small = q.small f };
+            secs = x;
+            reading = y;
+          };
     }
+
+-- What the answers of `too_short` and of `deadline_of` come to.
+pub ruleset short = (short-once, short-period)
+
+pub ruleset counting = (counted_7, counted_8, counted_9, counted-all)

@@ -34,3 +34,6 @@ tdel-allowed {z} {s} {t} a k = allowed-tdel (machine_in z s) k t (rw (le-leb 1 t
 pub tdel-done : {z : Sizes} {s s₁ : List ℕ} {t : ℕ} → KernelAsks z s t → Deleted z s s₁ t → Took z s s₁ (tdel t) (Ok Done)
 unfolding open_perform open_outcome means told
 tdel-done a d = record { stepped = λ k. stepped-done (tdel-allowed a k) (d.holds 0 a.well.holds) d.spares refl refl d.machine }
+
+-- What the answers of `tdel` come to.
+pub ruleset taken_off = (del-asks, tdel-done)

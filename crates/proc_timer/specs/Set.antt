@@ -83,3 +83,6 @@ set_after {z} {s} {s₁} {s₂} {t} {kind} {r} {n} {counts} {p} y b a =
           ∙ ap (λ (x : ℕ). add t (n + counts) (with_setting t (setting_of x r) (with_last_now n (machine_in z s)))) y.answer;
       spares = spares-after b.touched a.spares (alive-kin a.kin);
     }
+
+-- What the answers of `period_of` come to.
+pub ruleset periods = (period-once, period-each)

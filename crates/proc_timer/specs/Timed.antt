@@ -1,6 +1,6 @@
 -- tsleep of a process that runs: a number is met, or it goes by the condition and the Rendez.
 use Rattle.std.specs.Prelude.{if◌then◌else◌, ◌≡◌, refl, Bool, true, false, ◌&&◌, List, ℕ, ◌+◌, eqb, Result, Err}
-use Rattle.std.proofs.Common.{sym, ap, subst, ◌∙◌, Fits}
+use Rattle.std.proofs.Common.{sym, ap, subst, ◌∙◌, arith, Fits}
 use Rattle.std.proofs.Math.Bool.{and-false}
 use Rattle.std.proofs.Math.Option.{Option, none, some}
 use Rattle.std.specs.Int.{w8, w64}
@@ -27,7 +27,8 @@ use Rattle.outcome.specs.Refusals.{step}
 use Rattle.outcome.specs.RefusalsTsleep.{refusal-tsleep}
 use Rattle.outcome.specs.Room.{well-room}
 use Rattle.outcome.specs.Running.{current-is}
-use Rattle.proc_timer.specs.Counting.{number_for, CountedTo, NotCounted}
+use Rattle.proc_timer.specs.declared.Deadline.{Deadline}
+use Rattle.proc_timer.specs.Counting.{number_for, CountedTo, DeadlineFor, NotCounted}
 use Rattle.proc_timer.specs.For.{ForAsks, for_of, Came, SleptFor}
 use Rattle.proc_timer.specs.Tsleep.{Tslept, tsleep-range, RunningAsks}
 
@@ -83,17 +84,17 @@ tsleep-refused {z} {s} {i} {r} {c} {d} {n} {e} a f x =
 
 -- None is: it goes by the condition and the Rendez.
 pub tsleep-asks
-    : {z : Sizes} {s : List ℕ} {i r : ℕ} {d : Duration} {n counts : ℕ}
+    : {z : Sizes} {s : List ℕ} {i r : ℕ} {d : Duration} {n : ℕ} {at : Deadline}
     → RunningAsks z s i r d
-    → CountedTo z s 0 d n counts
-    → ForAsks z s i r n counts
+    → DeadlineFor z s 0 d n at
+    → ForAsks z s i r at.reading at.counts
 tsleep-asks a x =
     record {
       up = record { holds = a.asks.well.holds; runs = a.runs };
       index = a.asks.index;
       room = well-room a.asks.well;
-      small = x.lasts.small;
-      few = x.lasts.few;
+      small = omega (arith, x.reading, x.counted.lasts.small);
+      few = x.counted.lasts.few;
     }
 
 tsleep-is
@@ -105,7 +106,7 @@ unfolding open_perform
 tsleep-is m i r c S N n counts u e =
     ap (λ (j : ℕ). for_of m (own_timer j m) j r c n (counts_of m.sizes.hz S N)) (current-is m i u) ∙ ap (for_of m (own_timer i m) i r c n) (sym e)
 
-pub tsleep_for
+tsleep-counted
     : {z : Sizes} {s s₁ : List ℕ} {i r c : ℕ} {d : Duration} {n counts : ℕ} {a : Result code.Reply Refusal}
     → RunningAsks z s i r d
     → Fits w8 c
@@ -113,7 +114,7 @@ pub tsleep_for
     → SleptFor z s s₁ i r c n counts a
     → Tslept z s s₁ false r c d n a
 unfolding left_by left_bytes status_of machine_of own_timer
-tsleep_for {z} {s} {s₁} {i} {r} {c} {d} {n} {counts} {a} x f q y = go (taken m r c) refl
+tsleep-counted {z} {s} {s₁} {i} {r} {c} {d} {n} {counts} {a} x f q y = go (taken m r c) refl
   where
     m : Machine
     m = machine_in z s
@@ -139,3 +140,13 @@ tsleep_for {z} {s} {s₁} {i} {r} {c} {d} {n} {counts} {a} x f q y = go (taken m
               stepped-done (number false g) o.holds o.spares (o.reply ∙ ap (λ (v : Outcome). v.reply) (sym is))
               (o.told ∙ ap (λ (v : Outcome). told v.reply) (sym is)) (o.machine ∙ ap (λ (v : Outcome). v.after) (sym is));
         }
+
+pub tsleep_for
+    : {z : Sizes} {s s₁ : List ℕ} {i r c : ℕ} {d : Duration} {n : ℕ} {at : Deadline} {a : Result code.Reply Refusal}
+    → RunningAsks z s i r d
+    → Fits w8 c
+    → DeadlineFor z s 0 d n at
+    → SleptFor z s s₁ i r c at.reading at.counts a
+    → Tslept z s s₁ false r c d n a
+tsleep_for {z} {s} {s₁} {i} {r} {c} {d} {n} {at} {a} x f q y =
+    tsleep-counted x f q.counted (subst (λ (k : ℕ). SleptFor z s s₁ i r c k at.counts a) q.reading y)

@@ -1,4 +1,7 @@
 // The steps of timers and the clock: tdel, clock, tadd, tsleep.
+// `Well` stays a clause: a step breaks it midway, and a type's invariant would be owed at every store.
+// `in_interrupt` is the step's mark and not the state's: `tsleep` asks it once, so a struct of both would be made and taken apart at once.
+// A Rendez and a condition come from a step's fields and go into a `Resume`: a struct of both would be a third form of the two.
 #![tactic(auto)]
 
 ghost use Rattle.std.specs.Prelude.{◌≡◌, false, ◌<◌, Ok, IfOk, IfErr, MatchResult};
@@ -10,7 +13,7 @@ ghost use Rattle.outcome.specs.Took.{Took};
 ghost use Rattle.proc_timer.specs.Del.{KernelAsks};
 ghost use Rattle.proc_timer.specs.After.{AfterAsks, AddedAfter};
 ghost use Rattle.proc_timer.specs.Kinds.{kind_number};
-ghost use Rattle.proc_timer.specs.Counting.{TooShort, CountedTo, NotCounted};
+ghost use Rattle.proc_timer.specs.Counting.{TooShort, DeadlineFor, NotCounted};
 ghost use Rattle.proc_timer.specs.Set.{Period, SetAsks, SetAfter};
 ghost use Rattle.proc_timer.specs.Add.{TaddAsks, Tadded};
 ghost use Rattle.proc_timer.specs.Own.{UpAsks, Returned, UntilAsks, SleepsUntil};
@@ -51,6 +54,7 @@ impl TryFrom<u64> for Kind {
 }
 
 // Takes kernel timer `t` off the queue.
+#[tactic(auto, using(crate::specs::Del::taken_off))]
 pub fn tdel(s: &mut State, t: Index) -> Reply
     requires { KernelAsks s.old.sizes s.old.bytes.now t }
     ensures same { Same s.old s.new }
@@ -60,14 +64,21 @@ pub fn tdel(s: &mut State, t: Index) -> Reply
     Reply::Done
 }
 
-// The clock was read: queues timer `t` so many counts after the reading, moving it if it is queued.
-fn add_after(s: &mut State, t: Index, reading: u64, counts: u64)
-    requires { AfterAsks s.old.sizes s.old.bytes.now t reading counts }
+// A deadline: so many counts after a reading of the clock.
+#[derive(Clone, Copy, Debug, PartialEq, Eq)]
+struct Deadline {
+    reading: u64,
+    counts: u64,
+}
+
+// The clock was read: queues timer `t` with a deadline after the reading, moving it if it is queued.
+fn add_after(s: &mut State, t: Index, at: Deadline)
+    requires { AfterAsks s.old.sizes s.old.bytes.now t at.reading at.counts }
     ensures same { Same s.old s.new }
-    ensures done { AddedAfter s.old.sizes s.old.bytes.now s.new.bytes.now t reading counts }
+    ensures done { AddedAfter s.old.sizes s.old.bytes.now s.new.bytes.now t at.reading at.counts }
 {
-    clockwork::time::set_now(s, reading);
-    timer::by_deadline::add(s, t, reading + counts);
+    clockwork::time::set_now(s, at.reading);
+    timer::by_deadline::add(s, t, at.reading + at.counts);
 }
 
 // Adds timer 0, which ticks.
@@ -79,12 +90,13 @@ pub fn clock(s: &mut State, reading: u64) -> Result<Reply, Refusal>
     if clockwork::time::bad_now(&s.view(), reading) {
         return Err(Refusal::BadReading);
     }
-    let period = s.get(field::PERIOD, 0);
-    add_after(s, 0, reading, period);
+    let counts = s.get(field::PERIOD, 0);
+    add_after(s, 0, Deadline { reading, counts });
     Ok(Reply::Done)
 }
 
 // Is a duration too short for a timer of a kind: no time at all, or too short a period?
+#[tactic(auto, using(crate::specs::Counting::short))]
 fn too_short(kind: Kind, d: Duration) -> bool
     ensures { TooShort (kind_number kind) d result }
 {
@@ -97,10 +109,11 @@ fn too_short(kind: Kind, d: Duration) -> bool
     }
 }
 
-// How many counts a duration for a timer of a kind takes, or why it and a reading of the clock are refused.
-fn counts_of(v: &View, kind: Kind, d: Duration, reading: u64) -> Result<u64, Refusal>
+// When a timer of a kind fires that is set for a duration at a reading of the clock, or why the two are refused.
+#[tactic(auto, using(crate::specs::Counting::counting))]
+fn deadline_of(v: &View, kind: Kind, d: Duration, reading: u64) -> Result<Deadline, Refusal>
     requires { Well v.now.sizes v.now.bytes.now }
-    ensures ok { IfOk result (CountedTo v.now.sizes v.now.bytes.now (kind_number kind) d reading) }
+    ensures ok { IfOk result (DeadlineFor v.now.sizes v.now.bytes.now (kind_number kind) d reading) }
     ensures err { IfErr result (NotCounted v.now.sizes v.now.bytes.now (kind_number kind) d reading) }
 {
     if too_short(kind, d) {
@@ -113,11 +126,12 @@ fn counts_of(v: &View, kind: Kind, d: Duration, reading: u64) -> Result<u64, Ref
     if MOST_COUNTS < counts {
         return Err(Refusal::TooManyCounts);
     }
-    Ok(counts)
+    Ok(Deadline { reading, counts })
 }
 
 // The period of a timer of a kind that fires after so many counts: 0 where it fires once.
 // A number and no Option, since the state's field holds it so.
+#[tactic(auto, using(crate::specs::Set::periods))]
 fn period_of(kind: Kind, counts: u64) -> u64
     ensures { Period (kind_number kind) counts result }
 {
@@ -127,14 +141,14 @@ fn period_of(kind: Kind, counts: u64) -> u64
     }
 }
 
-// Sets what kernel timer `t` does, and queues it so many counts after a reading of the clock.
-fn set_after(s: &mut State, t: Index, kind: Kind, r: Index, reading: u64, counts: u64)
-    requires { SetAsks s.old.sizes s.old.bytes.now t r reading counts }
+// Sets what kernel timer `t` does, and queues it with a deadline.
+fn set_after(s: &mut State, t: Index, kind: Kind, r: Index, at: Deadline)
+    requires { SetAsks s.old.sizes s.old.bytes.now t r at.reading at.counts }
     ensures same { Same s.old s.new }
-    ensures done { SetAfter s.old.sizes s.old.bytes.now s.new.bytes.now t (kind_number kind) r reading counts }
+    ensures done { SetAfter s.old.sizes s.old.bytes.now s.new.bytes.now t (kind_number kind) r at.reading at.counts }
 {
-    clockwork::time::set_timer(s, t, period_of(kind, counts), r);
-    add_after(s, t, reading, counts);
+    clockwork::time::set_timer(s, t, period_of(kind, at.counts), r);
+    add_after(s, t, at);
 }
 
 // Adds kernel timer `t` to wake Rendez `r`.
@@ -150,8 +164,8 @@ pub fn tadd(
     ensures same { Same s.old s.new }
     ensures done { Tadded s.old.sizes s.old.bytes.now s.new.bytes.now t (kind_number kind) d r reading result }
 {
-    let counts = counts_of(&s.view(), kind, d, reading)?;
-    set_after(s, t, kind, r, reading, counts);
+    let at = deadline_of(&s.view(), kind, d, reading)?;
+    set_after(s, t, kind, r, at);
     Ok(Reply::Done)
 }
 
@@ -166,14 +180,14 @@ fn return_at(s: &mut State, i: Index, reading: u64)
     timer::by_deadline::del(s, own);
 }
 
-// Process `i`, which runs, goes asleep on Rendez `r`, its own timer queued so many counts after a reading of the clock.
-fn sleep_until(s: &mut State, i: Index, r: Index, c: u8, reading: u64, counts: u64)
-    requires { UntilAsks s.old.sizes s.old.bytes.now i r reading counts }
+// Process `i`, which runs, goes asleep on Rendez `r`, its own timer queued with a deadline.
+fn sleep_until(s: &mut State, i: Index, r: Index, c: u8, at: Deadline)
+    requires { UntilAsks s.old.sizes s.old.bytes.now i r at.reading at.counts }
     ensures same { Same s.old s.new }
-    ensures done { SleepsUntil s.old.sizes s.old.bytes.now s.new.bytes.now i r c reading counts }
+    ensures done { SleepsUntil s.old.sizes s.old.bytes.now s.new.bytes.now i r c at.reading at.counts }
 {
     let own = s.sizes.timers + i;
-    add_after(s, own, reading, counts);
+    add_after(s, own, at);
     proc_sleep::fall_asleep(
         s,
         i,
@@ -185,27 +199,20 @@ fn sleep_until(s: &mut State, i: Index, r: Index, c: u8, reading: u64, counts: u
     );
 }
 
-// Process `i`, which runs, returns where condition `c` holds, and else sleeps on Rendez `r` for so many counts at most.
-fn sleep_for(
-    s: &mut State,
-    i: Index,
-    r: Index,
-    c: u8,
-    reading: u64,
-    counts: u64,
-) -> Result<Reply, Refusal>
-    requires { ForAsks s.old.sizes s.old.bytes.now i r reading counts }
+// Process `i`, which runs, returns where condition `c` holds, and else sleeps on Rendez `r` until the deadline at most.
+fn sleep_for(s: &mut State, i: Index, r: Index, c: u8, at: Deadline) -> Result<Reply, Refusal>
+    requires { ForAsks s.old.sizes s.old.bytes.now i r at.reading at.counts }
     ensures same { Same s.old s.new }
-    ensures done { SleptFor s.old.sizes s.old.bytes.now s.new.bytes.now i r c reading counts result }
+    ensures done { SleptFor s.old.sizes s.old.bytes.now s.new.bytes.now i r c at.reading at.counts result }
 {
     if clockwork::conditions::holds(&s.view(), c) {
-        return_at(s, i, reading);
+        return_at(s, i, at.reading);
         return Ok(Reply::Done);
     }
     if s.get(field::SLEEPER_OF, r).is_some() {
         return Err(Refusal::RendezTaken);
     }
-    sleep_until(s, i, r, c, reading, counts);
+    sleep_until(s, i, r, c, at);
     Ok(Reply::Asleep)
 }
 
@@ -222,8 +229,8 @@ fn sleep_timed(
     ensures same { Same s.old s.new }
     ensures done { Tslept s.old.sizes s.old.bytes.now s.new.bytes.now false r c d reading result }
 {
-    let counts = counts_of(&s.view(), Kind::Relative, d, reading)?;
-    sleep_for(s, i, r, c, reading, counts)
+    let at = deadline_of(&s.view(), Kind::Relative, d, reading)?;
+    sleep_for(s, i, r, c, at)
 }
 
 // The running process sleeps on Rendez `r` until condition `c` holds or the duration has passed.
@@ -239,6 +246,6 @@ pub fn tsleep(
     ensures same { Same s.old s.new }
     ensures done { Tslept s.old.sizes s.old.bytes.now s.new.bytes.now in_interrupt r c d reading result }
 {
-    let i = outcome::lent::running(&s.view(), in_interrupt)?;
+    let i = outcome::running(&s.view(), in_interrupt)?;
     sleep_timed(s, i, r, c, d, reading)
 }

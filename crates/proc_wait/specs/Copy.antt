@@ -1,5 +1,5 @@
 -- The message of a cell, copied to the front of a buffer.
-use Rattle.std.specs.Prelude.{◌≡◌, refl, List, ◌++◌, ℕ, ◌+◌, ◌*◌, ◌≤◌, ◌<◌, length, get_or, take, drop, ◌-◌}
+use Rattle.std.specs.Prelude.{◌≡◌, List, ◌++◌, ℕ, ◌+◌, ◌*◌, ◌≤◌, ◌<◌, length, get_or, take, drop, ◌-◌}
 use Rattle.std.proofs.Common.{sym, ap, ◌∙◌, arith, lit<, length-drop, length-take-le, get_or-take, get_or-drop}
 use Rattle.std.proofs.lemmas.List.{ext_get_or}
 use Rattle.memory.specs.Le.{le, le-one}

@@ -1,6 +1,6 @@
 -- A process goes asleep on its own waitr.
-use Rattle.std.specs.Prelude.{◌≡◌, refl, true, List, [], ◌∷◌, ℕ, zero, suc, ◌<◌, length, get_or, set}
-use Rattle.std.proofs.Common.{sym, ap, subst, ◌∙◌, arith, get_or-set_same}
+use Rattle.std.specs.Prelude.{◌≡◌, refl, true, List, ℕ, suc, ◌<◌, length, get_or, set}
+use Rattle.std.proofs.Common.{sym, ap, subst, ◌∙◌, arith, get_or-set_same, set-set}
 use Rattle.std.proofs.Math.Option.{none}
 use Rattle.machine.specs.Machine as machine
 use Rattle.machine.specs.Machine.{Machine, Process, free, process}
@@ -21,9 +21,8 @@ use Rattle.holds.specs.Did.{machine_in}
 use Rattle.holds.specs.Use.{same_use}
 use Rattle.holds.specs.Touched.{Touched, touched_join, touched-did}
 use Rattle.dat.specs.Asleep.{asleep_in}
-use Rattle.dat.specs.Own.{StopAsks, Stopped, CallAsks, Called}
 use Rattle.dat.specs.Waitr.{WaitAsks, Waited}
-use Rattle.proc_sleep.specs.Running.{stopped-awake}
+use Rattle.proc_sleep.specs.Suspend.{SuspendAsks, Suspended}
 
 -- The running process i goes asleep on its waitr.
 pub record AloneAsks (z : Sizes) (s : List ℕ) (i : ℕ) : Type 0 where
@@ -36,37 +35,18 @@ pub record WentAsleep (z : Sizes) (s s' : List ℕ) (i : ℕ) : Type 0 where
   pub machine : machine_in z s' ≡ sleep_on_waitr i machine.in_wait (machine_in z s)
   pub touched : Touched z s s'
 
-pub alone-stop : {z : Sizes} {s : List ℕ} {i : ℕ} → AloneAsks z s i → StopAsks z s
-alone-stop a = record { owed = 0; holds = a.holds }
+pub alone-suspend : {z : Sizes} {s : List ℕ} {i : ℕ} → AloneAsks z s i → SuspendAsks z s i Wait
+alone-suspend a = record { holds = a.holds; runs = a.runs; object = omega arith; condition = omega arith }
 
-pub alone-call : {z : Sizes} {s s₁ : List ℕ} {i : ℕ} → AloneAsks z s i → Stopped z s s₁ → CallAsks z s₁ i Wait
-alone-call {z} {s} {s₁} {i} a t =
+pub alone-wait : {z : Sizes} {s s₁ : List ℕ} {i : ℕ} → AloneAsks z s i → Suspended z s s₁ i Wait → WaitAsks z s₁ i
+alone-wait {z} {s} {s₁} {i} a d =
     record {
       owed = 0;
-      holds = t.did.holds 0 a.holds;
-      nowhere = t.nowhere i a.runs;
-      awake = stopped-awake a.holds t i a.runs;
-      object = omega arith;
-      condition = omega arith;
-    }
-
-pub alone-wait : {z : Sizes} {s s₁ s₂ : List ℕ} {i : ℕ} → AloneAsks z s i → Stopped z s s₁ → Called z s₁ s₂ i Wait → WaitAsks z s₂ i
-alone-wait {z} {s} {s₁} {s₂} {i} a t d =
-    record {
-      owed = 0;
-      holds = d.did.holds 0 (t.did.holds 0 a.holds);
+      holds = d.holds;
       nowhere = d.nowhere;
-      call = ap (λ (x : Memory). x fields.resume_kind i) d.did.memory ∙ alter-same (mem_in z s₁ fields.resume_kind) i 4;
-      room =
-          subst (λ (n : ℕ). n < 65535)
-          (sym (ap (λ (x : Memory). x fields.asleep_count 0) d.did.memory ∙ ap (λ (x : Memory). x fields.asleep_count 0) t.did.memory)) a.room;
+      call = ap (λ (x : Memory). x fields.resume_kind i) d.memory ∙ alter-same (mem_in z s fields.resume_kind) i 4;
+      room = subst (λ (n : ℕ). n < 65535) (sym (ap (λ (x : Memory). x fields.asleep_count 0) d.memory)) a.room;
     }
-
--- A record stored twice is stored once.
-set-again : {A : Type 0} (xs : List A) (i : ℕ) (a b : A) → set (set xs i a) i b ≡ set xs i b
-set-again [] i a b = refl
-set-again (x ∷ xs) zero a b = refl
-set-again {A} (x ∷ xs) (suc i) a b = ap (λ (ys : List A). x ∷ ys) (set-again xs i a b)
 
 -- The machine then: the call and the waitr, stored one after another.
 sleep_on_lem
@@ -80,26 +60,23 @@ sleep_on_lem m i c x e l =
     let g : get_or (set m.processes i v) i free ≡ v = get_or-set_same m.processes i v free l in
     ap (λ (y : Machine). with_process i (with_on_waitr true (process y i)) y) e
     ∙ ap (λ (ps : List Process). record { sizes = m.sizes; next_pid = m.next_pid; ticks = m.ticks; last_now = m.last_now; up = none; run = m.run; processes = ps; sleepers = m.sleepers; locks = m.locks; settings = m.settings; queued = m.queued; conditions = m.conditions })
-    (set-again m.processes i v (with_on_waitr true (get_or (set m.processes i v) i free)) ∙ ap (λ (p : Process). set m.processes i (with_on_waitr true p)) g)
+    (set-set m.processes i v (with_on_waitr true (get_or (set m.processes i v) i free)) ∙ ap (λ (p : Process). set m.processes i (with_on_waitr true p)) g)
 
 pub went-asleep
-    : {z : Sizes} {s s₁ s₂ s₃ : List ℕ} {i : ℕ}
+    : {z : Sizes} {s s₁ s₂ : List ℕ} {i : ℕ}
     → AloneAsks z s i
-    → Stopped z s s₁
-    → Called z s₁ s₂ i Wait
-    → Waited z s₂ s₃ i
-    → WentAsleep z s s₃ i
+    → Suspended z s s₁ i Wait
+    → Waited z s₁ s₂ i
+    → WentAsleep z s s₂ i
 unfolding machine_of
-went-asleep {z} {s} {s₁} {s₂} {s₃} {i} a t d p =
+went-asleep {z} {s} {s₁} {s₂} {i} a d p =
     record {
-      holds = p.did.holds 0 (d.did.holds 0 (t.did.holds 0 a.holds));
+      holds = p.did.holds 0 d.holds;
       machine =
           p.did.machine
-          ∙ sleep_on_lem (machine_in z s) i machine.in_wait (machine_in z s₂)
-          (d.did.machine ∙ ap (λ (x : Machine). with_process i (with_resume machine.in_wait (process x i)) x) t.did.machine)
+          ∙ sleep_on_lem (machine_in z s) i machine.in_wait (machine_in z s₁) d.machine
           (omega (arith, table-length z.processes (process_at (mem_in z s)), low));
-      touched =
-          touched_join (touched_join (touched-did t.did (same_use refl refl refl refl refl refl refl refl refl)) (touched-did d.did (same_use refl refl refl refl refl refl refl refl refl))) (touched-did p.did (same_use refl refl refl refl refl refl refl refl refl));
+      touched = touched_join d.touched (touched-did p.did (same_use refl refl refl refl refl refl refl refl refl));
     }
   where
     low : i < z.processes

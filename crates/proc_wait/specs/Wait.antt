@@ -1,11 +1,11 @@
 -- wait: what the code shows at each return.
-use Rattle.std.specs.Prelude.{if◌then◌else◌, ◌≡◌, Bool, true, ◌&&◌, List, [], ◌∷◌, ◌++◌, ℕ, suc, ◌+◌, ◌-◌, ◌*◌, ◌≤◌, ◌<◌, eqb, length, take, drop, Option, Some, None, unwrap_or, Result, Ok, Err}
+use Rattle.std.specs.Prelude.{if◌then◌else◌, ◌≡◌, Bool, true, List, [], ◌∷◌, ◌++◌, ℕ, suc, ◌+◌, ◌-◌, ◌*◌, ◌≤◌, ◌<◌, eqb, length, take, drop, Result, Ok, Err}
 use Rattle.std.proofs.Math.Path.{refl}
 use Rattle.std.proofs.Common.{sym, ap, ap₂, subst, ◌∙◌, arith, lit<}
 use Rattle.std.proofs.Math.Bool.{false}
 use Rattle.std.proofs.Math.Option.{some}
 use Rattle.std.proofs.Math.Seq.{take-length}
-use Rattle.memory.specs.Link.{link}
+use Rattle.std.proofs.lemmas.Bool.{and_left, and_right}
 use Rattle.machine.specs.Basics.{is_empty}
 use Rattle.machine.specs.Machine as machine
 use Rattle.machine.specs.Machine.{Machine, Process, Exit, process}
@@ -179,14 +179,6 @@ wait_takes : (m : Machine) (i : ℕ) → m.up ≡ some i → is_empty (process m
 unfolding open_outcome
 wait_takes m i u e = (ap (λ (o : Outcome). o.reply) (wait_at_lem m i u) ∙ rw e, ap (λ (o : Outcome). o.after) (wait_at_lem m i u) ∙ rw e)
 
-no_child_lem : (x y : Bool) → x ≡ false → (x && y) ≡ false
-no_child_lem true y e = absurd (let f : ◌≡◌ {A = ℕ} 0 1 = cc in omega arith)
-no_child_lem false y e = refl
-
-no-exits : (x y : Bool) → y ≡ false → (x && y) ≡ false
-no-exits true y e = e
-no-exits false y e = refl
-
 pub pwait-asleep
     : {z : Sizes} {s s₁ : List ℕ} {i : ℕ} {b : List ℕ} {w : WaitState}
     → PwaitAsks z s i b
@@ -205,7 +197,7 @@ pwait-asleep {z} {s} {s₁} {i} {b} {w} a h e d =
       message = [];
       stepped =
           stepped-done
-          (allowed-wait (machine_in z s) false refl (runner a) (sym (waiting-is p.resume) ∙ f.0) (no_child_lem (eqb p.nchild 0) (is_empty p.exits) f.2))
+          (allowed-wait (machine_in z s) false refl (runner a) (sym (waiting-is p.resume) ∙ f.0) (and_left (eqb p.nchild 0) (is_empty p.exits) f.2))
           d.holds d.touched.spares (sym q.0) (ap told (sym q.0)) (d.machine ∙ sym q.1);
       long = refl;
       buffer = refl;
@@ -268,7 +260,7 @@ pwait-took {z} {s} {s₁} {i} {b} {b₁} {w} {g} a h e d =
       message = (newest p).message;
       stepped =
           stepped-done {m = (newest p).message}
-          (allowed-wait (machine_in z s) false refl (runner a) (sym (waiting-is p.resume) ∙ f.0) (no-exits (eqb p.nchild 0) (is_empty p.exits) f.1))
+          (allowed-wait (machine_in z s) false refl (runner a) (sym (waiting-is p.resume) ∙ f.0) (and_right (eqb p.nchild 0) (is_empty p.exits) f.1))
           d.holds d.spares (m ∙ sym q.0) (ap told (sym q.0)) (d.machine ∙ sym q.1);
       long = d.long;
       buffer = d.buffer;
@@ -286,12 +278,8 @@ module _ {z : Sizes} {s : List ℕ} {i : ℕ} {b : List ℕ} (a : ChildAsks z s 
   child-some = pop-some child-pop
 
   -- the cell of the newest exit
-  pub child-is : (o : Option ℕ) {c : ℕ} → link o ≡ mem_in z s fields.exits i → c ≡ unwrap_or o 0 → c ≡ mem_in z s fields.exits i - 1
-  child-is o e d = d ∙ go o e
-    where
-      go : (o : Option ℕ) → link o ≡ mem_in z s fields.exits i → unwrap_or o 0 ≡ mem_in z s fields.exits i - 1
-      go None q = omega (arith, q)
-      go (Some k) q = omega (arith, q)
+  pub child-is : {c : ℕ} → suc c ≡ mem_in z s fields.exits i → c ≡ mem_in z s fields.exits i - 1
+  child-is e = omega (arith, e)
 
   pub child-cell : {c : ℕ} → c ≡ mem_in z s fields.exits i - 1 → ReachIn z s (slot 6 0 8) c
   child-cell e =

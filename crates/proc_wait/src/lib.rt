@@ -1,4 +1,6 @@
 // The step by which a process waits for a child's exit.
+// The C interface lends the buffer for a child's message beside the state: so the two go apart, and an answer has the message's length.
+// `in_interrupt` is the step's mark and not the state's: `wait` asks it once, so a struct of both would be made and taken apart at once.
 #![tactic(auto)]
 
 ghost use Rattle.std.specs.Prelude.{false};
@@ -19,7 +21,7 @@ pub fn copy_message(v: &View, c: Index, buffer: &mut [u8]) -> u8
 {
     let at = v.sizes.message_at(c);
     let length = v.get(field::MESSAGE_LENGTH, c);
-    let n = length as usize;
+    let n = usize::from(length);
     buffer[..n].copy_from_slice(&v.bytes[at..at + n]);
     length
 }
@@ -30,9 +32,8 @@ fn wait_asleep(s: &mut State, i: Index)
     ensures same { Same s.old s.new }
     ensures done { WentAsleep s.old.sizes s.old.bytes.now s.new.bytes.now i }
 {
-    dat::lent::stop(s);
-    dat::lent::set_resume(s, i, Resume::Wait);
-    dat::lent::wait_on(s, i);
+    proc_sleep::suspend(s, i, Resume::Wait);
+    dat::wait_on(s, i);
 }
 
 // A child that has exited: its pid, and how long its message is.
@@ -48,7 +49,9 @@ pub fn take_child(s: &mut State, i: Index, buffer: &mut [u8]) -> Gone
     ensures same { Same s.old s.new }
     ensures done { TookChild s.old.sizes s.old.bytes.now s.new.bytes.now i buffer.old buffer.new result }
 {
-    let cell = s.get(field::EXITS, i).unwrap_or(0);
+    let Some(cell) = s.get(field::EXITS, i) else {
+        unreachable!()
+    };
     let pid = s.get(field::EXIT_PID, cell);
     let length = copy_message(&s.view(), cell, buffer);
     waitq::exits::take(s, i);
@@ -85,6 +88,6 @@ pub fn wait(s: &mut State, in_interrupt: bool, buffer: &mut [u8]) -> Result<Repl
     ensures same { Same s.old s.new }
     ensures done { WaitTook s.old.sizes s.old.bytes.now s.new.bytes.now in_interrupt buffer.old buffer.new result }
 {
-    let i = outcome::lent::running(&s.view(), in_interrupt)?;
+    let i = outcome::running(&s.view(), in_interrupt)?;
     pwait(s, i, buffer)
 }

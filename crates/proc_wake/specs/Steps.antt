@@ -1,7 +1,9 @@
 -- wakeup, canqlock, qunlock, cond and due: what the code shows at each return.
-use Rattle.std.specs.Prelude.{if◌then◌else◌, ◌≡◌, refl, Bool, true, false, not, List, [], ◌∷◌, ℕ, suc, ◌-◌, ◌≤◌, ◌<◌, eqb, Result, Ok, Err}
+use Rattle.std.specs.Prelude.{if◌then◌else◌, ◌≡◌, refl, Option, None, Some, is_some, Bool, true, false, not, List, [], ◌∷◌, ℕ, suc, ◌-◌, ◌<◌, eqb, Result, Ok, Err}
 use Rattle.std.proofs.Common.{sym, ap, subst, ◌∙◌, arith, lt-ltb, le-leb}
 use Rattle.std.proofs.Math.Option.{none, some}
+use Rattle.std.proofs.lemmas.Bool.{not-true, not-false}
+use Rattle.memory.specs.Link.{link}
 use Rattle.lists.specs.Lists.{bit}
 use Rattle.machine.specs.Basics.{is_empty}
 use Rattle.machine.specs.Machine.{Machine, Lock, lock}
@@ -16,6 +18,7 @@ use Rattle.state.specs.Fields as fields
 use Rattle.state.specs.Abs.{waiter_list, machine_of}
 use Rattle.state.specs.Places.{sizes_in, mem_in}
 use Rattle.state.specs.declared.Sizes.{Sizes}
+use Rattle.lists.specs.Lists.{bit-small}
 use Rattle.exact.specs.Parts.{lock_of}
 use Rattle.holds.specs.Holds.{Holds}
 use Rattle.holds.specs.Whole.{holds-bounds}
@@ -33,6 +36,7 @@ use Rattle.outcome.specs.declared.Reply as code
 use Rattle.outcome.specs.declared.Reply.TheVariants.{Done, Yes, No}
 use Rattle.outcome.specs.declared.Refusal.{Refusal}
 use Rattle.outcome.specs.declared.Refusal.TheVariants.{NotLocked}
+use Rattle.outcome.specs.Answer.{yes_no}
 use Rattle.outcome.specs.Means.{means, told}
 use Rattle.outcome.specs.Took.{Took}
 use Rattle.outcome.specs.Stepped.{Well, Stepped, left_bytes}
@@ -71,7 +75,7 @@ wakeup-after : (m : Machine) (r : ℕ) → (perform (wakeup r) m).after ≡ (wak
 unfolding open_perform open_outcome
 wakeup-after m r = refl
 
-pub wakeup-no : {z : Sizes} {s s₁ : List ℕ} {r l : ℕ} → RendezAsks z s r → Woke z s s₁ r l → l ≡ 0 → Took z s s₁ (wakeup r) (Ok No)
+wakeup-no : {z : Sizes} {s s₁ : List ℕ} {r l : ℕ} → RendezAsks z s r → Woke z s s₁ r l → l ≡ 0 → Took z s s₁ (wakeup r) (Ok No)
 unfolding means told
 wakeup-no {z} {s} {s₁} {r} {l} a w e =
     let t : (perform (wakeup r) (machine_in z s)).reply ≡ answer (Answer.yes_no false) =
@@ -83,7 +87,7 @@ wakeup-no {z} {s} {s₁} {r} {l} a w e =
           (w.machine ∙ sym (wakeup-after (machine_in z s) r));
     }
 
-pub wakeup-yes : {z : Sizes} {s s₁ : List ℕ} {r l : ℕ} → RendezAsks z s r → Woke z s s₁ r l → (l ≡ 0 → ⊥) → Took z s s₁ (wakeup r) (Ok Yes)
+wakeup-yes : {z : Sizes} {s s₁ : List ℕ} {r l : ℕ} → RendezAsks z s r → Woke z s s₁ r l → (l ≡ 0 → ⊥) → Took z s s₁ (wakeup r) (Ok Yes)
 unfolding means told
 wakeup-yes {z} {s} {s₁} {r} {l} a w ne =
     let e : l ≡ suc (l - 1) = omega arith in
@@ -96,6 +100,16 @@ wakeup-yes {z} {s} {s₁} {r} {l} a w ne =
           (w.machine ∙ sym (wakeup-after (machine_in z s) r));
     }
 
+-- Whom it woke, if anybody, is the answer.
+pub woken : {z : Sizes} {s s₁ : List ℕ} {r : ℕ} {b : Bool} {a : code.Reply} (o : Option ℕ)
+    → RendezAsks z s r → Woke z s s₁ r (link o) → b ≡ is_some o → a ≡ yes_no b → Took z s s₁ (wakeup r) (Ok a)
+woken {z} {s} {s₁} {r} {b} {a} o k w e d =
+    subst (λ (x : code.Reply). Took z s s₁ (wakeup r) (Ok x)) (sym (d ∙ ap yes_no e)) (go o w)
+  where
+    go : (o : Option ℕ) → Woke z s s₁ r (link o) → Took z s s₁ (wakeup r) (Ok (yes_no (is_some o)))
+    go None w = wakeup-no k w refl
+    go (Some i) w = wakeup-yes k w (λ e. absurd (omega (arith, e)))
+
 -- canqlock
 pub canqlock-asks : {z : Sizes} {s : List ℕ} {q : ℕ} → LockAsked z s q → LockAsks z s q
 canqlock-asks a = record { owed = 0; holds = a.well.holds; index = a.index }
@@ -103,14 +117,6 @@ canqlock-asks a = record { owed = 0; holds = a.well.holds; index = a.index }
 canqlock-allowed : {z : Sizes} {s : List ℕ} {q : ℕ} → LockAsked z s q → (k : Bool) → refusal (machine_in z s) (step k (canqlock q)) ≡ none
 unfolding machine_of in_range
 canqlock-allowed {z} {s} {q} a k = refusal-canqlock (machine_in z s) k q ∙ rw (lt-ltb q z.locks a.index)
-
-held-not : (b : Bool) → true ≡ not b → b ≡ false
-held-not false e = refl
-held-not true e = e
-
-held-yes : (b : Bool) → false ≡ not b → b ≡ true
-held-yes true e = refl
-held-yes false e = e
 
 canqlock-free : (m : Machine) (q : ℕ) → (lock m q).held ≡ false
     → ((perform (canqlock q) m).reply ≡ answer (Answer.yes_no true)) × ((perform (canqlock q) m).after ≡ with_lock q (record { held = true; waiters = (lock m q).waiters }) m)
@@ -122,11 +128,11 @@ canqlock-held : (m : Machine) (q : ℕ) → (lock m q).held ≡ true
 unfolding open_perform open_outcome
 canqlock-held m q e = (rw e, rw e)
 
-pub canqlock-yes : {z : Sizes} {s s₁ : List ℕ} {q : ℕ} {t : Bool} → LockAsked z s q → Tried z s s₁ q t → t ≡ true → Took z s s₁ (canqlock q) (Ok Yes)
+canqlock-yes : {z : Sizes} {s s₁ : List ℕ} {q : ℕ} {t : Bool} → LockAsked z s q → Tried z s s₁ q t → t ≡ true → Took z s s₁ (canqlock q) (Ok Yes)
 unfolding means told
 canqlock-yes {z} {s} {s₁} {q} {t} a w e =
     let f : ((perform (canqlock q) (machine_in z s)).reply ≡ answer (Answer.yes_no true)) × ((perform (canqlock q) (machine_in z s)).after ≡ with_lock q (record { held = true; waiters = (lock (machine_in z s) q).waiters }) (machine_in z s)) =
-    canqlock-free (machine_in z s) q (held-not (lock (machine_in z s) q).held (sym e ∙ w.answer))
+    canqlock-free (machine_in z s) q (not-true (lock (machine_in z s) q).held (sym w.answer ∙ e))
     in
     record {
       stepped = λ k.
@@ -134,11 +140,11 @@ canqlock-yes {z} {s} {s₁} {q} {t} a w e =
           ((w.yes e).machine ∙ sym f.1);
     }
 
-pub canqlock-no : {z : Sizes} {s s₁ : List ℕ} {q : ℕ} {t : Bool} → LockAsked z s q → Tried z s s₁ q t → t ≡ false → Took z s s₁ (canqlock q) (Ok No)
+canqlock-no : {z : Sizes} {s s₁ : List ℕ} {q : ℕ} {t : Bool} → LockAsked z s q → Tried z s s₁ q t → t ≡ false → Took z s s₁ (canqlock q) (Ok No)
 unfolding means told
 canqlock-no {z} {s} {s₁} {q} {t} a w e =
     let f : ((perform (canqlock q) (machine_in z s)).reply ≡ answer (Answer.yes_no false)) × ((perform (canqlock q) (machine_in z s)).after ≡ machine_in z s) =
-    canqlock-held (machine_in z s) q (held-yes (lock (machine_in z s) q).held (sym e ∙ w.answer))
+    canqlock-held (machine_in z s) q (not-false (lock (machine_in z s) q).held (sym w.answer ∙ e))
     in
     let b : s₁ ≡ s = w.no e in
     record {
@@ -147,6 +153,13 @@ canqlock-no {z} {s} {s₁} {q} {t} a w e =
           (ap told (sym f.0))
           (ap (machine_in z) b ∙ sym f.1);
     }
+
+pub asked : {z : Sizes} {s s₁ : List ℕ} {q : ℕ} {t : Bool} {a : code.Reply} → LockAsked z s q → Tried z s s₁ q t → a ≡ yes_no t → Took z s s₁ (canqlock q) (Ok a)
+asked {z} {s} {s₁} {q} {t} {a} k w d = subst (λ (x : code.Reply). Took z s s₁ (canqlock q) (Ok x)) (sym d) (go t w)
+  where
+    go : (t : Bool) → Tried z s s₁ q t → Took z s s₁ (canqlock q) (Ok (yes_no t))
+    go true w = canqlock-yes k w refl
+    go false w = canqlock-no k w refl
 
 -- qunlock
 pub qunlock-asks : {z : Sizes} {s : List ℕ} {q : ℕ} → LockAsked z s q → HandAsks z s q
@@ -188,17 +201,13 @@ qunlock-done a w = handed a (sym w.answer) (w.yes refl)
 pub well-owing : {z : Sizes} {s : List ℕ} → Well z s → Owing z s
 well-owing w = record { owed = 0; holds = w.holds }
 
-bit-low : (v : Bool) → bit v ≤ 1
-bit-low true = omega arith
-bit-low false = omega arith
-
 bit-one : (v : Bool) → eqb (bit v) 1 ≡ v
 bit-one true = refl
 bit-one false = refl
 
 cond-allowed : (m : Machine) (c : ℕ) (v : Bool) → c < 256 → (k : Bool) → refusal m (step k (cond c (bit v))) ≡ none
 unfolding in_range
-cond-allowed m c v l k = refusal-cond m k c (bit v) ∙ rw (lt-ltb c 256 l, le-leb (bit v) 1 (bit-low v))
+cond-allowed m c v l k = refusal-cond m k c (bit v) ∙ rw (lt-ltb c 256 l, le-leb (bit v) 1 (bit-small v))
 
 pub record CondTook (z : Sizes) (s s' : List ℕ) (c : ℕ) (v : Bool) (r : Result code.Reply Refusal) : Type 0 where
   pub stepped : (k : Bool) → Stepped z s s' (step k (cond c (bit v))) [] r
@@ -222,7 +231,7 @@ due-reply : (m : Machine) (t : Bool) → t ≡ preempt_due m → ((perform due m
 unfolding open_perform open_outcome
 due-reply m t e = (ap {B = Reply} (λ (x : Bool). answer (Answer.yes_no x)) (sym e), refl)
 
-pub due-yes : {z : Sizes} {s : List ℕ} {t : Bool} → Well z s → PreemptDue z s t → t ≡ true → Took z s s due (Ok Yes)
+due-yes : {z : Sizes} {s : List ℕ} {t : Bool} → Well z s → PreemptDue z s t → t ≡ true → Took z s s due (Ok Yes)
 unfolding means told
 due-yes {z} {s} {t} w d e =
     let f : ((perform due (machine_in z s)).reply ≡ answer (Answer.yes_no true)) × ((perform due (machine_in z s)).after ≡ machine_in z s) =
@@ -230,10 +239,17 @@ due-yes {z} {s} {t} w d e =
     in
     record { stepped = λ k. stepped-done (refusal-due (machine_in z s) k) w.holds spares-none (sym f.0) (ap told (sym f.0)) (sym f.1) }
 
-pub due-no : {z : Sizes} {s : List ℕ} {t : Bool} → Well z s → PreemptDue z s t → t ≡ false → Took z s s due (Ok No)
+due-no : {z : Sizes} {s : List ℕ} {t : Bool} → Well z s → PreemptDue z s t → t ≡ false → Took z s s due (Ok No)
 unfolding means told
 due-no {z} {s} {t} w d e =
     let f : ((perform due (machine_in z s)).reply ≡ answer (Answer.yes_no false)) × ((perform due (machine_in z s)).after ≡ machine_in z s) =
     due-reply (machine_in z s) false (sym e ∙ d.answer)
     in
     record { stepped = λ k. stepped-done (refusal-due (machine_in z s) k) w.holds spares-none (sym f.0) (ap told (sym f.0)) (sym f.1) }
+
+pub due-said : {z : Sizes} {s : List ℕ} {t : Bool} {a : code.Reply} → Well z s → PreemptDue z s t → a ≡ yes_no t → Took z s s due (Ok a)
+due-said {z} {s} {t} {a} w p d = subst (λ (x : code.Reply). Took z s s due (Ok x)) (sym d) (go t p)
+  where
+    go : (t : Bool) → PreemptDue z s t → Took z s s due (Ok (yes_no t))
+    go true p = due-yes w p refl
+    go false p = due-no w p refl

@@ -1,4 +1,5 @@
 // The steps that leave who runs as it is and need nobody to run: wakeup, canqlock, qunlock, cond, due.
+// `Well` stays a clause: a step breaks it midway, and a type's invariant would be owed at every store.
 #![tactic(auto)]
 
 ghost use Rattle.std.specs.Prelude.{Ok};
@@ -17,10 +18,7 @@ pub fn wakeup(s: &mut State, r: Index) -> Reply
     ensures same { Same s.old s.new }
     ensures done { Took s.old.sizes s.old.bytes.now s.new.bytes.now (wakeup r) (Ok result) }
 {
-    match dat::lent::wakeup(s, r) {
-        None => Reply::No,
-        Some(_) => Reply::Yes,
-    }
+    Reply::from(dat::wakeup(s, r).is_some())
 }
 
 // Takes lock `q` only if it is free.
@@ -29,11 +27,7 @@ pub fn canqlock(s: &mut State, q: Index) -> Reply
     ensures same { Same s.old s.new }
     ensures done { Took s.old.sizes s.old.bytes.now s.new.bytes.now (canqlock q) (Ok result) }
 {
-    if qlock::lent::canqlock(s, q) {
-        Reply::Yes
-    } else {
-        Reply::No
-    }
+    Reply::from(qlock::canqlock(s, q))
 }
 
 // Gives lock `q` up, to the first who waits for it; one that is not held is refused.
@@ -42,7 +36,7 @@ pub fn qunlock(s: &mut State, q: Index) -> Result<Reply, Refusal>
     ensures same { Same s.old s.new }
     ensures done { Took s.old.sizes s.old.bytes.now s.new.bytes.now (qunlock q) result }
 {
-    match qlock::lent::give_up(s, q) {
+    match qlock::give_up(s, q) {
         None => Err(Refusal::NotLocked),
         Some(_) => Ok(Reply::Done),
     }
@@ -63,9 +57,5 @@ pub fn due(v: &View) -> Reply
     requires { Well v.now.sizes v.now.bytes.now }
     ensures { Took v.now.sizes v.now.bytes.now v.now.bytes.now due (Ok result) }
 {
-    if clockwork::quantum::preempt_due(v) {
-        Reply::Yes
-    } else {
-        Reply::No
-    }
+    Reply::from(clockwork::quantum::preempt_due(v))
 }

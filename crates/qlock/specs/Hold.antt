@@ -1,6 +1,7 @@
 -- A lock held, handed over or freed: what `canqlock`, `qunlock` and `give_up` ask and ensure.
 use Rattle.std.specs.Prelude.{◌≡◌, refl, Option, Some, None, Bool, true, false, not, List, [], ◌∷◌, ◌++◌, ℕ, suc, ◌≤◌, ◌<◌}
 use Rattle.std.proofs.Common.{sym, ap, subst, ◌∙◌, arith, ne_eqb}
+use Rattle.std.proofs.lemmas.Bool.{both_ways}
 use Rattle.machine.specs.Machine.{Machine, Lock, lock, pid_of}
 use Rattle.machine.specs.Update.{with_lock}
 use Rattle.machine.specs.Places.{ready, hand_over}
@@ -24,8 +25,6 @@ use Rattle.dat.specs.Asleep.{AwakenAsks, Awakened, awaken_mem, awaken_stores}
 use Rattle.dat.specs.Rendez.{pids_of}
 use Rattle.qlock.specs.Queue.{LockAsks, Dequeued, DequeuedOne, dequeue_stores}
 use Rattle.memory.specs.Link.{link}
-use Rattle.qlock.specs.declared.Unlock.{Unlock}
-use Rattle.qlock.specs.declared.Unlock.TheVariants.{NotHeld, Free, To}
 
 -- The store that holds or frees a lock.
 held-did
@@ -52,34 +51,34 @@ pub record Tried (z : Sizes) (s s' : List ℕ) (q : ℕ) (t : Bool) : Type 0 whe
       → Did z s s' same same (to fields.held q 1 ∷ []) (held_mem (mem_in z s) q 1)
       (with_lock q (record { held = true; waiters = (lock (machine_in z s) q).waiters }) (machine_in z s))
 
-not-both : {x : Bool} → x ≡ true → x ≡ false → ⊥
-not-both a b = let e : true ≡ false = sym a ∙ b in let d : ◌≡◌ {A = ℕ} 0 1 = cc in omega arith
-
 held-is : {z : Sizes} {s : List ℕ} {q : ℕ} → LockAsks z s q → (lock (machine_in z s) q).held ≡ is_set (mem_in z s fields.held q)
 held-is {q = q} a = ap (λ (x : Lock). x.held) (lock_of (holds-bounds a.holds) q)
 
-held-set : {z : Sizes} {s : List ℕ} {q v : ℕ} → LockAsks z s q → v ≡ mem_in z s fields.held q → (v ≡ 0 → ⊥) → (lock (machine_in z s) q).held ≡ true
-held-set {v = v} a e ne = held-is a ∙ rw (← e, ne_eqb v 0 ne)
-
-held_unset : {z : Sizes} {s : List ℕ} {q v : ℕ} → LockAsks z s q → v ≡ mem_in z s fields.held q → v ≡ 0 → (lock (machine_in z s) q).held ≡ false
-held_unset a e d = held-is a ∙ rw (← e, d)
+pub held-said : {z : Sizes} {s : List ℕ} {q v : ℕ} → LockAsks z s q → v ≡ mem_in z s fields.held q → is_set v ≡ (lock (machine_in z s) q).held
+held-said a e = ap is_set e ∙ sym (held-is a)
 
 waiters_are : {z : Sizes} {s : List ℕ} {q : ℕ} → LockAsks z s q → (lock (machine_in z s) q).waiters ≡ waiter_list (sizes_in z) (mem_in z s) q
 waiters_are {q = q} a = ap (λ (x : Lock). x.waiters) (lock_of (holds-bounds a.holds) q)
 
-pub tried_held : {z : Sizes} {s : List ℕ} {q v : ℕ} → LockAsks z s q → v ≡ mem_in z s fields.held q → (v ≡ 0 → ⊥) → Tried z s s q false
-tried_held {z} {s} {q} {v} a e ne =
+pub tried_held : {z : Sizes} {s : List ℕ} {q : ℕ} {v : Bool} → LockAsks z s q → v ≡ (lock (machine_in z s) q).held → v ≡ true → Tried z s s q false
+tried_held {z} {s} {q} {v} a e d =
     record {
-      answer = sym (ap not (held-set a e ne));
+      answer = sym (ap not (sym e ∙ d));
       no = λ _. refl;
-      yes = λ x. absurd (not-both refl (sym x));
+      yes = λ x. absurd (both_ways _ (sym x) refl);
     }
 
-pub tried_free : {z : Sizes} {s s₁ : List ℕ} {q v : ℕ} → LockAsks z s q → v ≡ mem_in z s fields.held q → v ≡ 0 → PutIn z s s₁ (slot 4 0 2) q 1 → Tried z s s₁ q true
+pub tried_free
+    : {z : Sizes} {s s₁ : List ℕ} {q : ℕ} {v : Bool}
+    → LockAsks z s q
+    → v ≡ (lock (machine_in z s) q).held
+    → v ≡ false
+    → PutIn z s s₁ (slot 4 0 2) q 1
+    → Tried z s s₁ q true
 tried_free {z} {s} {s₁} {q} {v} a e d p =
     record {
-      answer = sym (ap not (held_unset a e d));
-      no = λ x. absurd (not-both refl x);
+      answer = sym (ap not (sym e ∙ d));
+      no = λ x. absurd (both_ways _ x refl);
       yes = λ _.
           did_as (held-did a (omega arith) p) refl refl
           (ap (λ (xs : List ℕ). with_lock q (record { held = true; waiters = xs }) (machine_in z s)) (sym (waiters_are a)));
@@ -198,22 +197,9 @@ abbrev pub link_given : Option (Option ℕ) → ℕ
 link_given None = 0
 link_given (Some l) = link l
 
-abbrev pub link_of : Unlock → ℕ
-link_of NotHeld = 0
-link_of Free = 0
-link_of (To i) = suc i
+pub given-no : {z : Sizes} {s : List ℕ} {q : ℕ} {v : Bool} → HandAsks z s q → v ≡ (lock (machine_in z s) q).held → v ≡ false → GivenUp z s s q false 0
+given-no a e d = record { answer = sym (sym e ∙ d); no = λ _. refl; yes = λ x. absurd (both_ways _ (sym x) refl) }
 
-abbrev pub WasHeld : Unlock → Bool
-WasHeld NotHeld = false
-WasHeld Free = true
-WasHeld (To i) = true
-
-abbrev pub Given : Sizes → List ℕ → List ℕ → ℕ → Unlock → Type 0
-Given z s s' q u = GivenUp z s s' q (WasHeld u) (link_of u)
-
-pub given-no : {z : Sizes} {s : List ℕ} {q v : ℕ} → HandAsks z s q → v ≡ mem_in z s fields.held q → v ≡ 0 → GivenUp z s s q false 0
-given-no {z} {s} {q} a e d =
-    record { answer = sym (held_unset (hand_lock a) e d); no = λ _. refl; yes = λ x. absurd (not-both refl (sym x)) }
-
-pub given-up : {z : Sizes} {s s₁ : List ℕ} {q v l : ℕ} → HandAsks z s q → v ≡ mem_in z s fields.held q → (v ≡ 0 → ⊥) → Handed z s s₁ q l → GivenUp z s s₁ q true l
-given-up a e ne h = record { answer = sym (held-set (hand_lock a) e ne); no = λ x. absurd (not-both refl x); yes = λ _. h }
+pub given-up
+    : {z : Sizes} {s s₁ : List ℕ} {q l : ℕ} {v : Bool} → HandAsks z s q → v ≡ (lock (machine_in z s) q).held → v ≡ true → Handed z s s₁ q l → GivenUp z s s₁ q true l
+given-up a e d h = record { answer = sym (sym e ∙ d); no = λ x. absurd (both_ways _ x refl); yes = λ _. h }

@@ -1,6 +1,6 @@
 -- The queue of a lock: what `enqueue` and `dequeue` ask and ensure.
 use Rattle.std.specs.Prelude.{◌≡◌, refl, List, [], ◌∷◌, ◌++◌, ℕ, zero, suc, ◌-◌, ◌≤◌, ◌<◌, length}
-use Rattle.std.proofs.Common.{sym, ap, ap₂, subst, ◌∙◌, arith}
+use Rattle.std.proofs.Common.{sym, ap, ap₂, subst, ◌∙◌, arith, lit<}
 use Rattle.machine.specs.Machine.{Machine, Lock, lock}
 use Rattle.machine.specs.Update.{with_lock}
 use Rattle.layout.specs.Table.{slot}
@@ -14,7 +14,8 @@ use Rattle.state.specs.declared.Sizes.{Sizes}
 use Rattle.exact.specs.Bounds.{InBounds, inside, at_most}
 use Rattle.exact.specs.Parts.{lock_of}
 use Rattle.queue.specs.Ends.{Ends, Popped}
-use Rattle.queue.specs.Held.{Held, HeldStored}
+use Rattle.queue.specs.Held.{HeldAsks, Held, HeldStored}
+use Rattle.queue.specs.Field.{PushAtAsks, PushedAt, PopAtAsks, PoppedAt}
 use Rattle.queue.specs.List.{Linked, linked-waiters, list-waiters, empty-list}
 use Rattle.queue.specs.Push.{push_writes, push-writable, PushAsks, PushDone}
 use Rattle.queue.specs.Pop.{pop_writes, pop_head, PopAsks, PopDone}
@@ -49,6 +50,14 @@ lock-loaded h = record { head = h.head; tail = h.tail }
 
 pub lock-stored : {z : Sizes} {s s' : List ℕ} {q : ℕ} {r : Ends} → HeldStored z s s' (slot 4 2 2) (slot 4 4 2) q r → Wrote z s s' (lock_stores q r)
 lock-stored h = record { bytes = h.bytes; long = h.long }
+
+-- The lock's fields lie within the bytes.
+waiters-held : {z : Sizes} {s : List ℕ} {q : ℕ} → LockLong z s q → HeldAsks z s (slot 4 2 2) (slot 4 4 2) q
+waiters-held l =
+    record {
+      head = record { inside = record { region = lit< tt; end = lit< tt }; index = l.index; long = l.long };
+      tail = record { inside = record { region = lit< tt; end = lit< tt }; index = l.index; long = l.long };
+    }
 
 linked : {z : Sizes} {s : List ℕ} {n : ℕ} (q : ℕ) {r : Ends} → Holds z s n → LockLoaded z s q r → Linked z (mem_in z s) r
 linked {z} {s} {n} q {r} h l = linked-waiters z (mem_in z s) r q l.head l.tail (h.keeps.placed.locks q)
@@ -127,6 +136,10 @@ enqueue-push {z} {s} {s₁} {q} {i} {r} a o l =
       absent = rw (list-waiters z (mem_in z s₁) r q l.head) (c.nowhere.locks q);
     }
 
+pub enqueue-push-at
+    : {z : Sizes} {s s₁ : List ℕ} {q i : ℕ} → EnqueueAsks z s q i → More z s s₁ → PushAtAsks z s₁ (slot 4 2 2) (slot 4 4 2) q i
+enqueue-push-at a o = record { held = waiters-held (enqueue-long a o); asks = λ h. enqueue-push a o (lock-loaded h) }
+
 first-low : (n h t i : ℕ) → h ≤ n → i < n → push_first h t i ≤ n
 first-low n h zero i a b = b
 first-low n h (suc t) i a b = a
@@ -139,7 +152,7 @@ last-updates m q (suc t) i e =
     (λ (k : Memory). updates k (to fields.lock_head q (push_first (m fields.lock_head q) (suc t) i) ∷ to fields.lock_tail q (suc i) ∷ to fields.state_of i 3 ∷ []))
     (set_twice m fields.next (alter (m fields.next) i 0) (alter (alter (m fields.next) i 0) t (suc i))))
 
--- What the code of `enqueue` shows.
+-- What its stores come to.
 pub enqueued
     : {z : Sizes} {s s₁ s₂ s₃ s₄ : List ℕ} {q i : ℕ} {r t : Ends}
     → EnqueueAsks z s q i
@@ -193,6 +206,16 @@ enqueued {z} {s} {s₁} {s₂} {s₃} {s₄} {q} {i} {r} {t} a o l d w p =
           (ap (λ (k : Memory). enqueue_mem k q i) c.memory)
           (ap₂ (λ (x : Lock) (y : Machine). with_lock q x y) locked o.did.machine);
     }
+
+-- What the code of `enqueue` shows.
+pub enqueued-at
+    : {z : Sizes} {s s₁ s₂ s₃ : List ℕ} {q i : ℕ}
+    → EnqueueAsks z s q i
+    → More z s s₁
+    → PushedAt z s₁ s₂ (slot 4 2 2) (slot 4 4 2) q i
+    → PutIn z s₂ s₃ (slot 1 37 1) i 3
+    → Enqueued z s s₃ q i
+enqueued-at a o d p = enqueued a o (lock-loaded d.held) d.pushed (lock-stored d.stored) p
 
 -- `dequeue`: the first waiter is taken off.
 pub record LockAsks (z : Sizes) (s : List ℕ) (q : ℕ) : Type 0 where
@@ -318,3 +341,12 @@ dequeued_one {z} {s} {s₁} {s₂} {q} {r} {t} a l d ne w =
               nowhere =
                   subst (λ (k : Memory). Nowhere (sizes_in z) k i) (sym done.memory) (dequeue-nowhere b a.holds.keeps.placed q xs e);
             }
+
+pub dequeue-pop-at : {z : Sizes} {s : List ℕ} {q : ℕ} → LockAsks z s q → PopAtAsks z s (slot 4 2 2) (slot 4 4 2) q
+dequeue-pop-at a = record { held = waiters-held (dequeue-long a); asks = λ h. dequeue-pop a (lock-loaded h) }
+
+pub dequeued-at : {z : Sizes} {s s' : List ℕ} {q l : ℕ} → LockAsks z s q → PoppedAt z s s' (slot 4 2 2) (slot 4 4 2) q l → Dequeued z s s' q l
+dequeued-at {z} {s} {s'} {q} {l = zero} a p =
+    subst (λ (t : List ℕ). Dequeued z s t q 0) (sym (p.none refl)) (dequeued_none a (lock-loaded p.held) p.popped refl)
+dequeued-at {z} {s} {s'} {q} {l = suc k} a p =
+    dequeued_one a (lock-loaded p.held) p.popped (λ e. absurd (omega (arith, e))) (lock-stored (p.one (λ e. absurd (omega (arith, e)))))

@@ -4,4 +4,5 @@ pub mod Held
 pub mod List
 pub mod Push
 pub mod Pop
+pub mod Field
 pub mod Other

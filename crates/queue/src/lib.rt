@@ -6,6 +6,7 @@ ghost use Rattle.state.specs.Regions.{slot_of};
 ghost use Rattle.memory.specs.Link.{link, IsLink};
 ghost use Rattle.queue.specs.Ends.{ends, popped, taken};
 ghost use Rattle.queue.specs.Held.{HeldAsks, Held, HeldStored};
+ghost use Rattle.queue.specs.Field.{PushAtAsks, PushedAt, PopAtAsks, PoppedAt};
 ghost use Rattle.queue.specs.List.{IsEmpty};
 ghost use Rattle.queue.specs.Push.{PushAsks, PushDone};
 ghost use Rattle.queue.specs.Pop.{PopAsks, PopDone};
@@ -14,6 +15,7 @@ use state::field::{self, Field};
 use state::{Count, Index, Link, State};
 
 // `asleep` counts the sleepers; the functions here leave it as it is. For the waiters of a lock, `head` and `tail` are the lock's.
+// Links are numbers of records in the lent bytes, and no boxes: the memory is fixed, and a C caller's.
 #[derive(Clone, Copy, Debug, PartialEq, Eq)]
 pub struct RunQueue {
     pub head: Link,
@@ -21,7 +23,7 @@ pub struct RunQueue {
     pub asleep: Count,
 }
 
-// The fields that hold the first and the last of a queue.
+// The fields that hold the first and the last of a queue. It derives only these: the names of fields are neither printed nor compared.
 #[derive(Clone, Copy)]
 pub struct Fields {
     pub head: Field<Link>,
@@ -52,6 +54,29 @@ impl Fields {
         s.set(self.head, i, q.head);
         s.set(self.tail, i, q.tail);
     }
+
+    // Puts process `i` last in the queue of record `at`.
+    pub fn push(self, s: &mut State, at: Index, i: Index)
+        requires { PushAtAsks s.old.sizes s.old.bytes.now (slot_of self.head 2) (slot_of self.tail 2) at i }
+        ensures same { Same s.old s.new }
+        ensures done { PushedAt s.old.sizes s.old.bytes.now s.new.bytes.now (slot_of self.head 2) (slot_of self.tail 2) at i }
+    {
+        let mut q = self.load(s, at);
+        push(&mut q, s, i);
+        self.store(s, at, q);
+    }
+
+    // Takes the first process off the queue of record `at`: none where nobody is in it.
+    pub fn pop(self, s: &mut State, at: Index) -> Option<Index>
+        requires { PopAtAsks s.old.sizes s.old.bytes.now (slot_of self.head 2) (slot_of self.tail 2) at }
+        ensures same { Same s.old s.new }
+        ensures done { PoppedAt s.old.sizes s.old.bytes.now s.new.bytes.now (slot_of self.head 2) (slot_of self.tail 2) at (link result) }
+    {
+        let mut q = self.load(s, at);
+        let first = pop(&mut q, s)?;
+        self.store(s, at, q);
+        Some(first)
+    }
 }
 
 // Is nobody in the queue?
@@ -72,15 +97,11 @@ fn with_last(q: RunQueue, s: &mut State, i: Index) -> RunQueue
         return RunQueue {
             head: Some(i),
             tail: Some(i),
-            asleep: q.asleep,
+            ..q
         };
     };
     s.set(field::NEXT, last, Some(i));
-    RunQueue {
-        head: q.head,
-        tail: Some(i),
-        asleep: q.asleep,
-    }
+    RunQueue { tail: Some(i), ..q }
 }
 
 // The first process of the queue, and the queue without it: none where nobody is in it.
@@ -97,7 +118,7 @@ fn without_first(q: RunQueue, s: &mut State) -> Option<(Index, RunQueue)>
         RunQueue {
             head: next,
             tail: next.and(q.tail),
-            asleep: q.asleep,
+            ..q
         },
     ))
 }

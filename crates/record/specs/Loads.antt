@@ -4,6 +4,7 @@ use Rattle.std.proofs.Common.{sym, ap, ◌∙◌, arith, lit<, length-take-le, l
 use Rattle.std.proofs.lemmas.List.{get_or-take, get_or-drop}
 use Rattle.std.proofs.Math.Path.{subst₃}
 use Rattle.memory.specs.Le.{le, le-one}
+use Rattle.memory.specs.Link.{link}
 use Rattle.layout.specs.Table.{slot}
 use Rattle.layout.specs.Memory.{Memory, Reach, reach-end, cell_in_lem}
 use Rattle.state.specs.Fields as fields
@@ -13,7 +14,6 @@ use Rattle.state.specs.Places.{sizes_in, total_in, start_in, mem_in}
 use Rattle.state.specs.declared.Sizes.{Sizes}
 use Rattle.record.specs.declared.Proc.{Proc}
 use Rattle.record.specs.declared.Resume.{Resume}
-use Rattle.record.specs.declared.Ties.{Ties}
 use Rattle.record.specs.Resumes.{resume_is}
 
 -- There is a record i in the bytes.
@@ -30,12 +30,12 @@ pub record Loaded (z : Sizes) (s : List ℕ) (i : ℕ) (p : Proc) : Type 0 where
   pub pid : p.pid ≡ mem_in z s fields.pid i
   pub parent : p.parent ≡ mem_in z s fields.parent i
   pub quantum_end : p.quantum_end ≡ mem_in z s fields.quantum_end i
-  pub next : p.next ≡ mem_in z s fields.next i
-  pub older : p.older ≡ mem_in z s fields.older i
-  pub younger : p.younger ≡ mem_in z s fields.younger i
-  pub parent_at : p.parent_at ≡ mem_in z s fields.parent_at i
+  pub next : link p.next ≡ mem_in z s fields.next i
+  pub older : link p.older ≡ mem_in z s fields.older i
+  pub younger : link p.younger ≡ mem_in z s fields.younger i
+  pub parent_at : link p.parent_at ≡ mem_in z s fields.parent_at i
   pub nchild : p.nchild ≡ mem_in z s fields.nchild i
-  pub exits : p.exits ≡ mem_in z s fields.exits i
+  pub exits : link p.exits ≡ mem_in z s fields.exits i
   pub nexits : p.nexits ≡ mem_in z s fields.nexits i
   pub state : p.state ≡ mem_in z s fields.state_of i
   pub resume : resume_is (mem_in z s fields.resume_kind i) (mem_in z s fields.resume_object i) (mem_in z s fields.resume_condition i) p.resume
@@ -103,10 +103,3 @@ pub resume-loaded
     → ResumeLoaded z s i r
 resume-loaded {z} {s} {i} {k} {o} {c} {r} a b d e =
     record { resume = subst₃ (λ (x y w : ℕ). resume_is x y w r) a b d e }
-
--- Its links were loaded.
-pub record TiesLoaded (z : Sizes) (s : List ℕ) (i : ℕ) (t : Ties) : Type 0 where
-  pub next : t.next ≡ mem_in z s fields.next i
-  pub older : t.older ≡ mem_in z s fields.older i
-  pub younger : t.younger ≡ mem_in z s fields.younger i
-  pub parent_at : t.parent_at ≡ mem_in z s fields.parent_at i

@@ -1,6 +1,6 @@
 -- The cases of `resume`, their numbers, and what they stand for.
-use Rattle.std.specs.Prelude.{◌≡◌, refl, ℕ}
-use Rattle.std.proofs.Common.{inl, inr, ne_eqb}
+use Rattle.std.specs.Prelude.{◌≡◌, refl, ℕ, ◌<◌}
+use Rattle.std.proofs.Common.{inl, inr, ne_eqb, arith}
 use Rattle.machine.specs.Machine as machine
 use Rattle.state.specs.Abs.{resume_number, resume_of}
 use Rattle.state.specs.WellFormed.{Blank}
@@ -62,6 +62,12 @@ is-wait e = record { means = rw e }
 pub is-nothing : {k o c : ℕ} → (k ≡ 1 → ⊥) → (k ≡ 2 → ⊥) → (k ≡ 3 → ⊥) → (k ≡ 4 → ⊥) → resume_is k o c Nothing
 unfolding resume_of
 is-nothing {k} a b c d = record { means = rw (ne_eqb k 1 a, ne_eqb k 2 b, ne_eqb k 3 c, ne_eqb k 4 d) }
+
+pub is-zero : {k o c : ℕ} → k ≡ 0 → resume_is k o c Nothing
+is-zero e = is-nothing (λ d. omega (arith, d, e)) (λ d. omega (arith, d, e)) (λ d. omega (arith, d, e)) (λ d. omega (arith, d, e))
+
+pub is-other : {k o c : ℕ} → 4 < k → resume_is k o c Nothing
+is-other h = is-nothing (λ e. omega (arith, h, e)) (λ e. omega (arith, h, e)) (λ e. omega (arith, h, e)) (λ e. omega (arith, h, e))
 
 -- The numbers, the object and the condition of a case say that case again, and are those that the state's layout gives it.
 pub says-again : (r : Resume) → resume_of (number_of r) (object_of r) (condition_of r) ≡ meaning r

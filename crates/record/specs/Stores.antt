@@ -1,12 +1,14 @@
 -- Storing a whole record: the stores, in the order in which the code makes them.
 use Rattle.std.specs.Prelude.{◌≡◌, refl, List, [], ◌∷◌, ◌++◌, ℕ, suc, ◌+◌, ◌-◌, ◌*◌, ◌≤◌, ◌<◌, length, get_or, set, take, drop}
-use Rattle.std.proofs.Common.{sym, ap, subst, ◌∙◌, arith, append_assoc, drop-drop, get_or-append-add}
+use Rattle.std.proofs.Common.{sym, ap, subst, ◌∙◌, arith, append_assoc, drop-drop}
 use Rattle.std.proofs.Math.Seq.{length-sets}
 use Rattle.std.proofs.lemmas.List.Edits.{sets, sets-eq}
 use Rattle.memory.specs.Le.{put, put_one}
+use Rattle.memory.specs.Link.{link, IsLink}
 use Rattle.machine.specs.Good.{Each}
 use Rattle.layout.specs.Memory.{write}
 use Rattle.layout.specs.Writes.{Write, to, writes}
+use Rattle.chain.specs.Lists.{part_below}
 use Rattle.state.specs.Fields as fields
 use Rattle.state.specs.Places.{sizes_in, start_in, total_in, PutIn, Wrote, wrote_3}
 use Rattle.layout.specs.Table.{slot}
@@ -16,14 +18,22 @@ use Rattle.record.specs.declared.Resume.{Resume}
 use Rattle.record.specs.Resumes.{number_of, object_of, condition_of}
 use Rattle.record.specs.Loads.{name-end}
 
+-- Each link of a record fits two bytes.
+pub record LinksFit (p : Proc) : Type 0 where
+  pub next : IsLink p.next
+  pub older : IsLink p.older
+  pub younger : IsLink p.younger
+  pub parent_at : IsLink p.parent_at
+  pub exits : IsLink p.exits
+
 abbrev pub id_stores : ℕ → Proc → List Write
 id_stores i p = to fields.pid i p.pid ∷ to fields.parent i p.parent ∷ to fields.quantum_end i p.quantum_end ∷ []
 
 abbrev pub tie_stores : ℕ → Proc → List Write
-tie_stores i p = to fields.next i p.next ∷ to fields.older i p.older ∷ to fields.younger i p.younger ∷ to fields.parent_at i p.parent_at ∷ []
+tie_stores i p = to fields.next i (link p.next) ∷ to fields.older i (link p.older) ∷ to fields.younger i (link p.younger) ∷ to fields.parent_at i (link p.parent_at) ∷ []
 
 abbrev pub count_stores : ℕ → Proc → List Write
-count_stores i p = to fields.nchild i p.nchild ∷ to fields.exits i p.exits ∷ to fields.nexits i p.nexits ∷ to fields.state_of i p.state ∷ []
+count_stores i p = to fields.nchild i p.nchild ∷ to fields.exits i (link p.exits) ∷ to fields.nexits i p.nexits ∷ to fields.state_of i p.state ∷ []
 
 abbrev pub resume_stores : ℕ → Resume → List Write
 resume_stores i r = to fields.resume_kind i (number_of r) ∷ to fields.resume_object i (object_of r) ∷ to fields.resume_condition i (condition_of r) ∷ []
@@ -53,14 +63,6 @@ names-set z s k (b ∷ bs) a =
     ∙ ap (λ (x : ℕ). sets (set s x b) (start_in z 2 + suc k) bs) (omega arith)
     ∙ ap (λ (x : ℕ). sets (set s (start_in z 2 + k) b) x bs) (omega arith)
 
--- The bytes of a part are bytes of the whole.
-each-byte : (p bs q : List ℕ) → ((k : ℕ) → get_or (p ++ (bs ++ q)) k 0 < 256) → Each (λ b. b < 256) bs
-each-byte p [] q h = tt
-each-byte p (b ∷ bs) q h = (
-  subst (λ (x : ℕ). x < 256) (get_or-append-add p (b ∷ (bs ++ q)) 0 0) (h (length p + 0)),
-  each-byte (p ++ b ∷ []) bs q (λ k. subst (λ (l : List ℕ). get_or l k 0 < 256) (sym (append_assoc p (b ∷ []) (bs ++ q))) (h k)),
-)
-
 -- The part of the bytes that is record i's name is replaced by a text.
 pub name-stored
     : (text : List ℕ) {z : Sizes} {s s' : List ℕ} {i at : ℕ}
@@ -73,7 +75,7 @@ pub name-stored
     → Wrote z s s' (name_stores (28 * i) text)
 name-stored text {z} {s} {s'} {i} {at} h l e w d f =
     let n : at + 28 - at ≡ length text = omega (arith, w) in
-    let g : Each (λ b. b < 256) text = each-byte (take at s) text (drop (at + 28 - at) (drop at s)) (λ k. subst (λ (x : List ℕ). get_or x k 0 < 256) d (f k)) in
+    let g : Each (λ b. b < 256) text = part_below 256 (take at s) text (drop (at + 28 - at) (drop at s)) (λ k. subst (λ (x : List ℕ). get_or x k 0 < 256) d (f k)) in
     let b : s' ≡ sets s at text =
     d
     ∙ ap (λ (k : ℕ). take at s ++ (text ++ drop k (drop at s))) n

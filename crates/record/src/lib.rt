@@ -3,17 +3,19 @@
 
 pub mod name;
 
-ghost use Rattle.std.specs.Prelude.{◌≡◌, ◌+◌, ◌*◌, ◌<◌, ◌≤◌, length};
+ghost use Rattle.std.specs.Prelude.{◌≡◌, ◌+◌, ◌*◌, ◌<◌, ◌≤◌};
+ghost use Rattle.std.specs.Option.{unwrap_or};
 ghost use Rattle.record.specs.Resumes.{number_of, object_of, condition_of, resume_is};
+ghost use Rattle.state.specs.Process.{call_number};
 ghost use Rattle.state.specs.Places.{Wrote};
 ghost use Rattle.state.specs.Lent.{Same};
-ghost use Rattle.memory.specs.Link.{link, IsLink};
-ghost use Rattle.record.specs.Stores.{id_stores, tie_stores, count_stores, resume_stores, name_stores, number_stores, record_stores};
-ghost use Rattle.record.specs.Loads.{LoadAsks, Loaded, ResumeLoaded, TiesLoaded};
+ghost use Rattle.record.specs.Stores.{LinksFit, id_stores, tie_stores, count_stores, resume_stores, number_stores, record_stores};
+ghost use Rattle.record.specs.Loads.{Loaded, ResumeLoaded};
 
-use state::{Count, Index, Link, Sizes, State, View, field};
+use state::{CallKind, Count, Index, Link, State, View, field};
 
-// Where a switched-out call goes on.
+// Where a switched-out call goes on. That it goes on nowhere is a case, as in the machine and in the numbers of docs/STATE.md: an Option would
+// have to be made from that number, and turned into it again.
 #[derive(Clone, Copy, Debug, PartialEq, Eq)]
 pub enum Resume {
     Nothing,
@@ -23,18 +25,19 @@ pub enum Resume {
     Wait,
 }
 
-// A process record. The name is twenty-eight bytes, zero-filled. Its links are numbers: 0 is none, i + 1 leads to record i.
+// A process record. The name is twenty-eight bytes, zero-filled: the state that is lent has fixed memory, and no heap. `state` is the number of
+// a `ProcState` as the byte has it, since a record is loaded and stored whatever the byte says.
 #[derive(Clone, Copy, Debug, PartialEq, Eq)]
 pub struct Proc {
     pub pid: u64,
     pub parent: u64,
     pub quantum_end: u64,
-    pub next: Index,
-    pub older: Index,
-    pub younger: Index,
-    pub parent_at: Index,
+    pub next: Link,
+    pub older: Link,
+    pub younger: Link,
+    pub parent_at: Link,
     pub nchild: Count,
-    pub exits: Index,
+    pub exits: Link,
     pub nexits: u8,
     pub state: u8,
     pub resume: Resume,
@@ -42,56 +45,57 @@ pub struct Proc {
 }
 
 impl Resume {
-    // The case with a number, and the object and the condition that it has. A number that no case has says `Nothing`.
+    // The case of the kind with a number, and the object and the condition that it has. A number that no kind has says `Nothing`.
     pub fn of(kind: u8, object: Index, condition: u8) -> Resume
         ensures { resume_is kind object condition result }
     {
-        match kind {
-            state::SLEEP => Resume::Sleep {
+        match CallKind::of(kind) {
+            Some(CallKind::Sleep) => Resume::Sleep {
                 rendez: object,
                 condition,
             },
-            state::TSLEEP => Resume::Tsleep {
+            Some(CallKind::Tsleep) => Resume::Tsleep {
                 rendez: object,
                 condition,
             },
-            state::QLOCK => Resume::Qlock { lock: object },
-            state::WAIT => Resume::Wait,
-            _ => Resume::Nothing,
+            Some(CallKind::Qlock) => Resume::Qlock { lock: object },
+            Some(CallKind::Wait) => Resume::Wait,
+            Some(CallKind::Nothing) => Resume::Nothing,
+            None => Resume::Nothing,
         }
     }
 
-    // The number of a case.
-    pub fn number(self) -> u8
-        ensures { result ≡ number_of self }
+    // The kind of a case.
+    pub fn kind(self) -> CallKind
+        ensures { call_number result ≡ number_of self }
     {
         match self {
-            Resume::Nothing => state::NO_CALL,
-            Resume::Sleep { .. } => state::SLEEP,
-            Resume::Tsleep { .. } => state::TSLEEP,
-            Resume::Qlock { .. } => state::QLOCK,
-            Resume::Wait => state::WAIT,
+            Resume::Nothing => CallKind::Nothing,
+            Resume::Sleep { .. } => CallKind::Sleep,
+            Resume::Tsleep { .. } => CallKind::Tsleep,
+            Resume::Qlock { .. } => CallKind::Qlock,
+            Resume::Wait => CallKind::Wait,
         }
     }
 
-    // The Rendez or the lock of a case, 0 where it has none.
-    pub fn object(self) -> Index
-        ensures { result ≡ object_of self }
+    // The Rendez or the lock of a case that has one.
+    pub fn object(self) -> Option<Index>
+        ensures { unwrap_or result 0 ≡ object_of self }
     {
         match self {
-            Resume::Nothing | Resume::Wait => 0,
-            Resume::Sleep { rendez, .. } | Resume::Tsleep { rendez, .. } => rendez,
-            Resume::Qlock { lock } => lock,
+            Resume::Nothing | Resume::Wait => None,
+            Resume::Sleep { rendez, .. } | Resume::Tsleep { rendez, .. } => Some(rendez),
+            Resume::Qlock { lock } => Some(lock),
         }
     }
 
-    // The condition of a case, 0 where it has none.
-    pub fn condition(self) -> u8
-        ensures { result ≡ condition_of self }
+    // The condition of a case that has one.
+    pub fn condition(self) -> Option<u8>
+        ensures { unwrap_or result 0 ≡ condition_of self }
     {
         match self {
-            Resume::Sleep { condition, .. } | Resume::Tsleep { condition, .. } => condition,
-            Resume::Nothing | Resume::Qlock { .. } | Resume::Wait => 0,
+            Resume::Sleep { condition, .. } | Resume::Tsleep { condition, .. } => Some(condition),
+            Resume::Nothing | Resume::Qlock { .. } | Resume::Wait => None,
         }
     }
 
@@ -107,58 +111,15 @@ impl Resume {
         )
     }
 
-    // Stores where the call of record `i` goes on.
+    // Stores where the call of record `i` goes on. What its case does not have is stored as 0.
     pub fn store(self, s: &mut State, i: Index)
         requires { i < s.old.sizes.processes }
         ensures same { Same s.old s.new }
         ensures stored { Wrote s.old.sizes s.old.bytes.now s.new.bytes.now (resume_stores i self) }
     {
-        s.set(field::RESUME_KIND, i, self.number());
-        s.set(field::RESUME_OBJECT, i, self.object());
-        s.set(field::RESUME_CONDITION, i, self.condition());
-    }
-}
-
-// The number of a link.
-fn number_of_link(l: Link) -> Index
-    requires { IsLink l }
-    ensures { result ≡ link l }
-{
-    match l {
-        None => 0,
-        Some(i) => i + 1,
-    }
-}
-
-// The link that a number says.
-fn link_of(n: Index) -> Link
-    ensures number { link result ≡ n }
-    ensures fits { IsLink result }
-{
-    if n == 0 { None } else { Some(n - 1) }
-}
-
-// The links of a record.
-#[derive(Clone, Copy)]
-struct Ties {
-    next: Index,
-    older: Index,
-    younger: Index,
-    parent_at: Index,
-}
-
-impl Ties {
-    // The links of record `i`.
-    fn load(v: &View, i: Index) -> Ties
-        requires { i < v.now.sizes.processes }
-        ensures { TiesLoaded v.now.sizes v.now.bytes.now i result }
-    {
-        Ties {
-            next: number_of_link(v.get(field::NEXT, i)),
-            older: number_of_link(v.get(field::OLDER, i)),
-            younger: number_of_link(v.get(field::YOUNGER, i)),
-            parent_at: number_of_link(v.get(field::PARENT_AT, i)),
-        }
+        s.set(field::RESUME_KIND, i, self.kind().number());
+        s.set(field::RESUME_OBJECT, i, self.object().unwrap_or(0));
+        s.set(field::RESUME_CONDITION, i, self.condition().unwrap_or(0));
     }
 }
 
@@ -166,24 +127,23 @@ impl Proc {
     // Record `i`, whole.
     pub fn load(v: &View, i: Index) -> Proc
         requires { i < v.now.sizes.processes }
-        ensures { Loaded v.now.sizes v.now.bytes.now i result }
+        ensures loaded { Loaded v.now.sizes v.now.bytes.now i result }
+        ensures fit { LinksFit result }
     {
-        let resume = Resume::load(v, i);
         let text = name::load(v, i);
-        let ties = Ties::load(v, i);
         Proc {
             pid: v.get(field::PID, i),
             parent: v.get(field::PARENT, i),
             quantum_end: v.get(field::QUANTUM_END, i),
-            next: ties.next,
-            older: ties.older,
-            younger: ties.younger,
-            parent_at: ties.parent_at,
+            next: v.get(field::NEXT, i),
+            older: v.get(field::OLDER, i),
+            younger: v.get(field::YOUNGER, i),
+            parent_at: v.get(field::PARENT_AT, i),
             nchild: v.get(field::NCHILD, i),
-            exits: number_of_link(v.get(field::EXITS, i)),
+            exits: v.get(field::EXITS, i),
             nexits: v.get(field::NEXITS, i),
             state: v.get(field::STATE_OF, i),
-            resume,
+            resume: Resume::load(v, i),
             text,
         }
     }
@@ -199,33 +159,36 @@ impl Proc {
         s.set(field::QUANTUM_END, i, self.quantum_end);
     }
 
-    // Stores the links.
+    // Stores the links. Four stores, each of a field of its own: a loop over pairs of a field and a link would be no plainer.
     fn store_ties(self, s: &mut State, i: Index)
-        requires { i < s.old.sizes.processes }
+        requires index { i < s.old.sizes.processes }
+        requires fit { LinksFit self }
         ensures same { Same s.old s.new }
         ensures stored { Wrote s.old.sizes s.old.bytes.now s.new.bytes.now (tie_stores i self) }
     {
-        s.set(field::NEXT, i, link_of(self.next));
-        s.set(field::OLDER, i, link_of(self.older));
-        s.set(field::YOUNGER, i, link_of(self.younger));
-        s.set(field::PARENT_AT, i, link_of(self.parent_at));
+        s.set(field::NEXT, i, self.next);
+        s.set(field::OLDER, i, self.older);
+        s.set(field::YOUNGER, i, self.younger);
+        s.set(field::PARENT_AT, i, self.parent_at);
     }
 
-    // Stores the counts of children and exits, and the state.
+    // Stores the counts of children and exits, and the state: fields of three types, so that no loop is over them.
     fn store_counts(self, s: &mut State, i: Index)
-        requires { i < s.old.sizes.processes }
+        requires index { i < s.old.sizes.processes }
+        requires fit { LinksFit self }
         ensures same { Same s.old s.new }
         ensures stored { Wrote s.old.sizes s.old.bytes.now s.new.bytes.now (count_stores i self) }
     {
         s.set(field::NCHILD, i, self.nchild);
-        s.set(field::EXITS, i, link_of(self.exits));
+        s.set(field::EXITS, i, self.exits);
         s.set(field::NEXITS, i, self.nexits);
         s.set(field::STATE_OF, i, self.state);
     }
 
     // Stores the numbers of a record.
     fn store_numbers(self, s: &mut State, i: Index)
-        requires { i < s.old.sizes.processes }
+        requires index { i < s.old.sizes.processes }
+        requires fit { LinksFit self }
         ensures same { Same s.old s.new }
         ensures stored { Wrote s.old.sizes s.old.bytes.now s.new.bytes.now (number_stores i self) }
     {
@@ -236,7 +199,8 @@ impl Proc {
 
     // Stores record `i`, whole.
     pub fn store(self, s: &mut State, i: Index)
-        requires { i < s.old.sizes.processes }
+        requires index { i < s.old.sizes.processes }
+        requires fit { LinksFit self }
         ensures same { Same s.old s.new }
         ensures stored { Wrote s.old.sizes s.old.bytes.now s.new.bytes.now (record_stores i self) }
     {
@@ -244,46 +208,4 @@ impl Proc {
         self.resume.store(s, i);
         name::store(s, i, self.text);
     }
-}
-
-// The same for callers that hold the bytes and the sizes apart.
-
-// The call of record `i`.
-pub fn load_resume(s: &[u8], z: Sizes, i: Index) -> Resume
-    requires { LoadAsks z s.now i }
-    ensures { ResumeLoaded z s.now i result }
-{
-    Resume::load(&View { bytes: s, sizes: z }, i)
-}
-
-// Record `i`, whole.
-pub fn load(s: &[u8], z: Sizes, i: Index) -> Proc
-    requires { LoadAsks z s.now i }
-    ensures { Loaded z s.now i result }
-{
-    Proc::load(&View { bytes: s, sizes: z }, i)
-}
-
-// Stores where the call goes on.
-pub fn store_resume(s: &mut [u8], z: Sizes, i: Index, r: Resume)
-    requires { LoadAsks z s.old i }
-    ensures { Wrote z s.old s.new (resume_stores i r) }
-{
-    r.store(&mut State { bytes: s, sizes: z }, i);
-}
-
-// Stores the name.
-pub fn store_name(s: &mut [u8], z: Sizes, i: Index, text: [u8; 28])
-    requires { LoadAsks z s.old i }
-    ensures { Wrote z s.old s.new (name_stores (28 * i) text) }
-{
-    name::store(&mut State { bytes: s, sizes: z }, i, text);
-}
-
-// Stores record `i`, whole.
-pub fn store(s: &mut [u8], z: Sizes, i: Index, p: Proc)
-    requires { LoadAsks z s.old i }
-    ensures { Wrote z s.old s.new (record_stores i p) }
-{
-    p.store(&mut State { bytes: s, sizes: z }, i);
 }

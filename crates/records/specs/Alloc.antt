@@ -8,6 +8,7 @@ use Rattle.machine.specs.Update.{with_next_pid, with_process}
 use Rattle.machine.specs.Exits.{free_record}
 use Rattle.machine.specs.Places.{ready}
 use Rattle.machine.specs.Perform.{made}
+use Rattle.memory.specs.Link.{link}
 use Rattle.layout.specs.Memory.{Memory}
 use Rattle.layout.specs.Writes.{Write}
 use Rattle.state.specs.Fields as fields
@@ -52,7 +53,7 @@ pub record AllocAsks (z : Sizes) (s : List ℕ) (p : Proc) : Type 0 where
   pub holds : Holds z s owed
   pub new : Newcomer (mem_in z s) p (mem_in z s fields.next_pid 0)
   pub room : mem_in z s fields.next_pid 0 < 18446744073709551615
-  pub link : p.parent_at ≤ z.processes
+  pub link : link p.parent_at ≤ z.processes
   pub text : IsName p.text
 
 -- Record i, the free one of the highest number, has the new process, which is nowhere.

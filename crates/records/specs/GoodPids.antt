@@ -3,6 +3,7 @@ use Rattle.std.specs.Prelude.{◌≡◌, ℕ, suc, ◌<◌}
 use Rattle.std.proofs.Common.{sym, ap, ◌∙◌, arith}
 use Rattle.machine.specs.Machine.{Sizes, Process}
 use Rattle.machine.specs.Good.{Good}
+use Rattle.memory.specs.Link.{link}
 use Rattle.layout.specs.Memory.{Memory}
 use Rattle.state.specs.Fields as fields
 use Rattle.state.specs.Abs.{machine_of}
@@ -30,7 +31,7 @@ module _ {z : Sizes} {m : Memory} (b : InBounds z m) (g : Good (machine_of z m))
       )
 
   -- A process without a parent.
-  pub newcomer_orphan : {p : Proc} → p.parent ≡ 0 → p.parent_at ≡ 0 → Newcomer m p (m fields.next_pid 0)
+  pub newcomer_orphan : {p : Proc} → p.parent ≡ 0 → link p.parent_at ≡ 0 → Newcomer m p (m fields.next_pid 0)
   newcomer_orphan e n =
       record {
         above = pids-below;
@@ -46,7 +47,7 @@ module _ {z : Sizes} {m : Memory} (b : InBounds z m) (g : Good (machine_of z m))
       → Ages z m
       → Used m i
       → p.parent ≡ m fields.pid i
-      → p.parent_at ≡ suc i
+      → link p.parent_at ≡ suc i
       → Newcomer m p (m fields.next_pid 0)
   newcomer-child {i = i} a u e l =
       record {

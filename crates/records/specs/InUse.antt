@@ -3,6 +3,7 @@ use Rattle.std.specs.Prelude.{if◌then◌else◌, ◌≡◌, refl, Bool, true, 
 use Rattle.std.proofs.Common.{ap, subst, ◌∙◌, arith, eqb-true, eq-eqb, ne_eqb, lit<}
 use Rattle.std.proofs.lemmas.Bool.{eqb-false}
 use Rattle.machine.specs.Basics.{elem}
+use Rattle.memory.specs.Link.{link}
 use Rattle.layout.specs.Memory.{Memory, alter}
 use Rattle.layout.specs.Writes.{to}
 use Rattle.chain.specs.Links.{alter-same, alter-other}
@@ -84,7 +85,7 @@ pub occupy-in_use
 occupy-in_use {m = m} n i p v a f c w =
     let h : 0 < v = omega (arith, c.above i) in
     let u : 0 < occupy_mem n m i p v fields.pid i = rw (alter-same (m fields.pid) i v) h in
-    in_use-runs (in_use-runs (mark-in_use n m i) (in_in_use i a u)) (record_in_use i (new_record (taken_mem n m i) i p v) u (born-kin (m fields.pid) (m fields.parent) (m fields.parent_at) i v p.parent p.parent_at f h c.kin) w)
+    in_use-runs (in_use-runs (mark-in_use n m i) (in_in_use i a u)) (record_in_use i (new_record (taken_mem n m i) i p v) u (born-kin (m fields.pid) (m fields.parent) (m fields.parent_at) i v p.parent (link p.parent_at) f h c.kin) w)
 
 pub occupy-alive : (n : ℕ) (m : Memory) (i : ℕ) (p : Proc) (v : ℕ) → 0 < v → Alive m (occupy_mem n m i p v)
 occupy-alive n m i p v h = record { alive = λ j u. go j u (eqb i j) }
@@ -154,5 +155,5 @@ release-ceased {z} n m i a w x k =
 pub occupy-ceased : {z : Sizes} (n : ℕ) (m : Memory) (i : ℕ) (p : Proc) (v : ℕ) → m fields.pid i ≡ 0 → 0 < v → Ceased z m (occupy_mem n m i p v)
 occupy-ceased n m i p v f h =
     ceased_grown (occupy-alive n m i p v h)
-    (λ j u. alter-other (m fields.parent_at) i p.parent_at j (λ e. omega (arith, u, f, ap (m fields.pid) e)))
+    (λ j u. alter-other (m fields.parent_at) i (link p.parent_at) j (λ e. omega (arith, u, f, ap (m fields.pid) e)))
     (λ t u. u) (λ c u. u) (λ c u. refl)

@@ -1,6 +1,8 @@
 -- A new process: its record, and what its pid must be.
-use Rattle.std.specs.Prelude.{◌≡◌, false, [], ℕ, suc, ◌-◌, ◌<◌}
-use Rattle.std.proofs.Common.{arith}
+use Rattle.std.specs.Prelude.{◌≡◌, refl, Option, None, Some, false, [], ℕ, zero, suc, ◌-◌, ◌≤◌, ◌<◌}
+use Rattle.std.proofs.Common.{sym, arith}
+use Rattle.memory.specs.Link as links
+use Rattle.memory.specs.Link.{link, IsLink}
 use Rattle.machine.specs.Machine.{Process, nothing}
 use Rattle.layout.specs.Memory.{Memory}
 use Rattle.state.specs.Fields as fields
@@ -8,9 +10,27 @@ use Rattle.state.specs.WellFormed.{Used}
 use Rattle.record.specs.declared.Proc.{Proc}
 use Rattle.record.specs.declared.Resume.TheVariants.{Nothing}
 
+-- The link that a number says.
+abbrev pub link_of : ℕ → Option ℕ
+link_of zero = None
+link_of (suc i) = Some i
+
+pub number-of : (n : ℕ) → link (link_of n) ≡ n
+number-of zero = refl
+number-of (suc i) = refl
+
+pub of-number : (l : Option ℕ) {n : ℕ} → link l ≡ n → l ≡ link_of n
+of-number None e = rw (sym e) refl
+of-number (Some i) e = rw (sym e) refl
+
+-- It fits where its number does.
+pub link-fits : (l : Option ℕ) {n : ℕ} → link l ≤ n → n ≤ 65535 → IsLink l
+link-fits None h m = tt
+link-fits (Some i) h m = omega (arith, h, m)
+
 -- The record of a new process with the pid v, and with three links: its parent, the link to that and its name are those of p; it is
 -- ready, with no children, no exits, no quantum and no call.
-abbrev pub newborn : (next older younger : ℕ) → Proc → ℕ → Proc
+abbrev pub newborn : (next older younger : Option ℕ) → Proc → ℕ → Proc
 newborn next older younger p v =
     record {
       pid = v;
@@ -21,7 +41,7 @@ newborn next older younger p v =
       younger = younger;
       parent_at = p.parent_at;
       nchild = 0;
-      exits = 0;
+      exits = None;
       nexits = 0;
       state = 2;
       resume = Nothing;
@@ -30,7 +50,7 @@ newborn next older younger p v =
 
 -- With the links of record i.
 abbrev pub new_record : Memory → ℕ → Proc → ℕ → Proc
-new_record m i p v = newborn (m fields.next i) (m fields.older i) (m fields.younger i) p v
+new_record m i p v = newborn (link_of (m fields.next i)) (link_of (m fields.older i)) (link_of (m fields.younger i)) p v
 
 -- The process.
 abbrev pub new_process : ℕ → Proc → Process
@@ -60,8 +80,8 @@ pub record Newcomer (m : Memory) (p : Proc) (v : ℕ) : Type 0 where
   pub above : (j : ℕ) → m fields.pid j < v
   pub parents : (j : ℕ) → Used m j → m fields.parent j < v
   pub parent : p.parent < v
-  pub link : (j : ℕ) → Used m j → p.parent ≡ m fields.pid j → p.parent_at ≡ suc j
-  pub kin : HasKin (m fields.pid) p.parent p.parent_at
+  pub link : (j : ℕ) → Used m j → p.parent ≡ m fields.pid j → link p.parent_at ≡ suc j
+  pub kin : HasKin (m fields.pid) p.parent (links.link p.parent_at)
 
 -- It is one as long as the pids and the parents stay.
 pub newcomer_same

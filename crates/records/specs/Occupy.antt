@@ -6,6 +6,7 @@ use Rattle.machine.specs.Basics.{elem}
 use Rattle.machine.specs.Machine as machine
 use Rattle.machine.specs.Machine.{Process, free}
 use Rattle.machine.specs.Update.{with_process}
+use Rattle.memory.specs.Link.{link}
 use Rattle.layout.specs.Memory.{Memory}
 use Rattle.layout.specs.Writes.{Write}
 use Rattle.chain.specs.Links.{alter-same}
@@ -121,9 +122,9 @@ module _ {z : machine.Sizes} {m : Memory} {i : ℕ} {p : Proc} {v : ℕ} (b : In
         above = λ j. omega (arith, occupy-pid z.processes m i p v, c.above j);
         parents = λ j u. omega (arith, occupy-pid z.processes m i p v, c.parents j u);
         parent = omega (arith, occupy-pid z.processes m i p v, alter-same (m fields.parent) i p.parent, c.parent);
-        link = λ j u d. alter-same (m fields.parent_at) i p.parent_at ∙ c.link j u (sym (alter-same (m fields.parent) i p.parent) ∙ d);
+        link = λ j u d. alter-same (m fields.parent_at) i (link p.parent_at) ∙ c.link j u (sym (alter-same (m fields.parent) i p.parent) ∙ d);
         orphan = λ d.
-            alter-same (m fields.parent_at) i p.parent_at
+            alter-same (m fields.parent_at) i (link p.parent_at)
             ∙ orphan-link c.kin (sym (alter-same (m fields.parent) i p.parent) ∙ d);
       })
       ).ages

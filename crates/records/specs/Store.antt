@@ -6,6 +6,7 @@ use Rattle.machine.specs.Basics.{elem}
 use Rattle.layout.specs.Memory.{Memory, set_field, upd, set_same}
 use Rattle.layout.specs.Writes.{Write, updates}
 use Rattle.machine.specs.Machine.{Machine}
+use Rattle.memory.specs.Link.{link}
 use Rattle.state.specs.Fields as fields
 use Rattle.state.specs.Abs.{machine_of}
 use Rattle.state.specs.Places.{sizes_in, mem_in}
@@ -25,11 +26,11 @@ abbrev id_mem : Memory → ℕ → Proc → Memory
 id_mem m i p = upd (upd (upd m fields.pid i p.pid) fields.parent i p.parent) fields.quantum_end i p.quantum_end
 
 abbrev tie_mem : Memory → ℕ → Proc → Memory
-tie_mem m i p = upd (upd (upd m fields.next i p.next) fields.older i p.older) fields.younger i p.younger
+tie_mem m i p = upd (upd (upd m fields.next i (link p.next)) fields.older i (link p.older)) fields.younger i (link p.younger)
 
 abbrev count_mem : Memory → ℕ → Proc → Memory
 count_mem m i p =
-    upd (upd (upd (upd (upd m fields.parent_at i p.parent_at) fields.nchild i p.nchild) fields.exits i p.exits) fields.nexits i p.nexits) fields.state_of i p.state
+    upd (upd (upd (upd (upd m fields.parent_at i (link p.parent_at)) fields.nchild i p.nchild) fields.exits i (link p.exits)) fields.nexits i p.nexits) fields.state_of i p.state
 
 abbrev call_mem : Memory → ℕ → Proc → Memory
 call_mem m i p =
@@ -46,9 +47,9 @@ stored_mem m i p = name_mem (call_mem (count_mem (id_mem m i p) i p) i p) i p
 
 -- The record has the links that are there.
 pub record TiesKept (m : Memory) (i : ℕ) (p : Proc) : Type 0 where
-  pub next : p.next ≡ m fields.next i
-  pub older : p.older ≡ m fields.older i
-  pub younger : p.younger ≡ m fields.younger i
+  pub next : link p.next ≡ m fields.next i
+  pub older : link p.older ≡ m fields.older i
+  pub younger : link p.younger ≡ m fields.younger i
 
 -- A store of what is there changes nothing.
 put-kept : (m : Memory) (f i v : ℕ) → v ≡ m f i → upd m f i v ≡ m
@@ -61,9 +62,9 @@ put-kept m f i v e = ap (set_field m f) (fun_ext (λ j. go j (eqb i j) refl)) �
 ties_kept : (m : Memory) (i : ℕ) (p : Proc) → TiesKept m i p → tie_mem (id_mem m i p) i p ≡ id_mem m i p
 ties_kept m i p t =
     let n : Memory = id_mem m i p in
-    ap (λ (x : Memory). upd (upd x fields.older i p.older) fields.younger i p.younger) (put-kept n fields.next i p.next t.next)
-    ∙ ap (λ (x : Memory). upd x fields.younger i p.younger) (put-kept n fields.older i p.older t.older)
-    ∙ put-kept n fields.younger i p.younger t.younger
+    ap (λ (x : Memory). upd (upd x fields.older i (link p.older)) fields.younger i (link p.younger)) (put-kept n fields.next i (link p.next) t.next)
+    ∙ ap (λ (x : Memory). upd x fields.younger i (link p.younger)) (put-kept n fields.older i (link p.older) t.older)
+    ∙ put-kept n fields.younger i (link p.younger) t.younger
 
 pub stored_mem_lem : (m : Memory) (i : ℕ) (p : Proc) → TiesKept m i p → updates m (record_stores i p) ≡ stored_mem m i p
 stored_mem_lem m i p t =
@@ -75,12 +76,12 @@ pub record Fits (z : Sizes) (p : Proc) : Type 0 where
   pub pid : p.pid ≤ 18446744073709551615
   pub parent : p.parent ≤ 18446744073709551615
   pub quantum_end : p.quantum_end ≤ 18446744073709551615
-  pub next : p.next ≤ z.processes
-  pub older : p.older ≤ z.processes
-  pub younger : p.younger ≤ z.processes
-  pub parent_at : p.parent_at ≤ z.processes
+  pub next : link p.next ≤ z.processes
+  pub older : link p.older ≤ z.processes
+  pub younger : link p.younger ≤ z.processes
+  pub parent_at : link p.parent_at ≤ z.processes
   pub nchild : p.nchild ≤ 65535
-  pub exits : p.exits ≤ z.cells
+  pub exits : link p.exits ≤ z.cells
   pub nexits : p.nexits ≤ 128
   pub state : p.state ≤ 3
   pub call : number_of p.resume ≤ 4
@@ -116,7 +117,7 @@ pub stored_else : {m m' : Memory} {i : ℕ} (p : Proc) → Else m m' i → lengt
 unfolding part_of elem
 stored_else p e w =
     let a = else_put (else_put (else_put e fields.pid p.pid refl) fields.parent p.parent refl) fields.quantum_end p.quantum_end refl in
-    let b = else_put (else_put (else_put a fields.parent_at p.parent_at refl) fields.nchild p.nchild refl) fields.exits p.exits refl in
+    let b = else_put (else_put (else_put a fields.parent_at (link p.parent_at) refl) fields.nchild p.nchild refl) fields.exits (link p.exits) refl in
     let c = else_put (else_put b fields.nexits p.nexits refl) fields.state_of p.state refl in
     let d = else_put (else_put c fields.resume_kind (number_of p.resume) refl) fields.resume_object (object_of p.resume) refl in
     else_name (else_put d fields.resume_condition (condition_of p.resume) refl) p.text w

@@ -1,12 +1,12 @@
 -- What the parts of the program ask and ensure.
-use Rattle.std.specs.Prelude.{◌≡◌, refl, Bool, true, List, [], ℕ, ◌+◌, ◌-◌, ◌≤◌, ◌<◌, length}
+use Rattle.std.specs.Prelude.{◌≡◌, Bool, true, List, ℕ, ◌-◌, ◌≤◌, ◌<◌, length}
 use Rattle.std.proofs.Common.{arith}
 use Rattle.state.specs.declared.Sizes.{Sizes}
 use Rattle.state.specs.WellFormed.{WellFormed}
 use Rattle.rules.specs.Code.{Decides}
 use Rattle.verify.specs.Ways.{SizesRead}
 use Rattle.outcome.specs.Stepped.{Well}
-use Rattle.step.specs.Exported.{checked-well}
+use Rattle.step.specs.Exported.{checked_well}
 use Rattle.print.specs.Put.{Put}
 use Rattle.machine.specs.Listing.{header}
 use Rattle.line.specs.Line.{line_most}
@@ -21,12 +21,14 @@ pub record ListAsks (z : Sizes) (s input : List ℕ) : Type 0 where
   pub few : length input < 1000000000
 
 pub list_feeds
-    : {z : Sizes} {s input held out out₁ : List ℕ} {used : ℕ}
+    : {z : Sizes} {s input held out out₁ : List ℕ} {have n used : ℕ}
     → ListAsks z s input
     → length held ≡ held_most
+    → have ≡ 0
+    → n ≡ 1
     → Put 34 out 0 header out₁ used
-    → FeedAsks z s input held out₁ (fed 0 0 1 used)
-list_feeds a l p =
+    → FeedAsks z s input held out₁ (fed 0 have n used)
+list_feeds a l e f p =
     record {
       well = a.well;
       line = l;
@@ -62,4 +64,4 @@ pub list-asks
     → SizesRead s z
     → length input < 1000000000
     → ListAsks z s input
-list-asks e d r f = record { well = checked-well e d r; few = f }
+list-asks e d r f = record { well = checked_well e d r; few = f }

@@ -1,100 +1,105 @@
 // Replays lists of steps: the listing that the machine gives for each is compared with the one that is kept.
 // Its arguments come in threes: the sizes as P,R,Q,K,C,HZ; a file of steps; the listing that is kept of it. It ends at the first list that does not
-// agree, at sizes of no state, at a file that cannot be read whole or at a rest of arguments, names it, and says how many agreed.
+// agree, at sizes of no state, at a file that cannot be read whole or at a rest of arguments, names it, and says how many agreed. Where memory
+// runs out it ends with 1, and says so on standard error.
 #![tactic(auto)]
 
-ghost use Rattle.std.specs.Prelude.{◌≡◌, suc, ◌≤◌, ◌<◌, length, IfSome};
+ghost use Rattle.std.specs.Prelude.{◌≡◌};
 ghost use Rattle.replay.specs.Replay.{ListAsks};
 
 use line::Machine;
 use listing::Listing;
 use print::Out;
-use state::Sizes;
+use state::State;
+use std::alloc::{AllocError, Global};
 use std::env::{Env, FillError};
 use std::fs::File;
 use std::io;
-use std::io::{Read, Write};
+use std::io::{ErrorKind, Read, Write};
 
-// Why a list does not agree, with the number of the argument that is at fault.
-#[derive(Clone, Copy)]
-enum Fault {
+// The most bytes of a state, a file or a listing.
+const MOST: usize = 262_144;
+
+// The most bytes of an argument.
+const WORD_SIZE: usize = 4_096;
+
+// Why a list does not agree, with the argument that is at fault.
+#[derive(Clone, Copy, Debug, PartialEq, Eq)]
+enum Fault<'a> {
     // No sizes of a state, or too large.
-    Unmade(usize),
+    Unmade(&'a [u8]),
     // A file that cannot be read whole.
-    Unread(usize),
+    Unread(&'a [u8]),
     // Another listing, from this line on.
-    Differs(usize, u64),
+    Differs(&'a [u8], u64),
     // A rest of arguments.
-    Rest(usize),
+    Rest(&'a [u8]),
+    // No memory for a state, a file or a listing.
+    OutOfMemory,
 }
 
-// A number with one more digit, and 0 where there would be too many.
-fn with_digit(value: u64, b: u8) -> u64 {
+impl From<AllocError> for Fault<'_> {
+    fn from(_e: AllocError) -> Self {
+        Fault::OutOfMemory
+    }
+}
+
+// A number with one more digit. None: there would be too many.
+fn with_digit(value: u64, b: u8) -> Option<u64> {
     if value > 100_000_000_000_000_000 || !b.is_ascii_digit() {
-        return 0;
+        return None;
     }
-    value * 10 + (b - b'0') as u64
+    Some(value * 10 + u64::from(b - b'0'))
 }
 
-// The number at the front of a text, and what is behind it and one byte more.
-fn number_at(text: &[u8]) -> (u64, &[u8]) {
-    let mut value = 0;
-    for (i, b) in text.iter().enumerate() {
-        if !b.is_ascii_digit() {
-            return (value, &text[i + 1..]);
-        }
-        value = with_digit(value, *b);
+// The number that the digits are. None: there are none of them, or too many; any behind too many are a number anew.
+fn number(digits: &[u8]) -> Option<u64> {
+    digits
+        .iter()
+        .fold(None, |value, b| with_digit(value.unwrap_or(0), *b))
+}
+
+// Makes a fresh state of the sizes in the text. None: they are sizes of no state, or of one that is too large.
+fn open(s: &mut [u8], text: &[u8]) -> Option<()> {
+    let mut numbers = text.split(|b| !b.is_ascii_digit());
+    let processes = number(numbers.next()?)?;
+    let rendez = number(numbers.next()?)?;
+    let locks = number(numbers.next()?)?;
+    let timers = number(numbers.next()?)?;
+    let cells = number(numbers.next()?)?;
+    let hz = number(numbers.next()?)?;
+    match make::make(s, processes, rendez, locks, timers, cells, hz) {
+        0 => Some(()),
+        _ => None,
     }
-    (value, b"")
 }
 
-// Makes a fresh state of the sizes in the text. Could it be made?
-fn open(s: &mut [u8], text: &[u8]) -> bool {
-    let (processes, text) = number_at(text);
-    let (rendez, text) = number_at(text);
-    let (locks, text) = number_at(text);
-    let (timers, text) = number_at(text);
-    let (cells, text) = number_at(text);
-    let (hz, _) = number_at(text);
-    make::make(s, processes, rendez, locks, timers, cells, hz) == 0
-}
-
-// The listing of the steps in `input`, in the buffer: how long it is. None: there is no room.
-fn list(state: &mut [u8], sizes: Sizes, input: &[u8], buffer: &mut [u8]) -> Option<usize>
-    requires { ListAsks sizes state.old input.now }
-    ensures { IfSome result (λ n. n ≤ length buffer.new) }
+// The listing of the steps in `input`, at the front of the buffer, by a listing that begins. None: there is no room.
+fn list<'a>(listing: &mut Listing, input: &[u8], buffer: &'a mut [u8]) -> Option<&'a [u8]>
+    requires asks { ListAsks listing.old.machine.state.sizes listing.old.machine.state.bytes.now input.now }
+    requires have { listing.old.have ≡ 0 }
+    requires number { listing.old.number ≡ 1 }
 {
     if buffer.len() < 34 {
         return None;
     }
-    let mut listing = Listing {
-        machine: Machine {
-            state,
-            sizes,
-            step: [0; line::STEP_SIZE],
-            message: [0; line::MESSAGE_SIZE],
-        },
-        held: [0; listing::HELD_SIZE],
-        have: 0,
-        number: 1,
-    };
     let mut out = Out {
         bytes: buffer,
         used: 0,
     };
     listing::begin(&mut out);
-    listing.feed(input, 0, &mut out);
-    if out.bytes.len() - out.used < line::most(sizes) {
+    listing.feed(input, &mut out);
+    if out.bytes.len() - out.used < line::most(listing.machine.state.sizes) {
         return None;
     }
     listing.finish(&mut out);
-    Some(out.used)
+    let used = out.used;
+    let bytes = out.bytes;
+    Some(&bytes[..used])
 }
 
 // The same for the state in `s`. None, too, where it is no state.
-fn listing_of(s: &mut [u8], input: &[u8], buffer: &mut [u8]) -> Option<usize>
-    ensures { IfSome result (λ n. n ≤ length buffer.new) }
-{
+fn listing_of<'a>(s: &mut [u8], input: &[u8], buffer: &'a mut [u8]) -> Option<&'a [u8]> {
     if !verify::check(s) {
         return None;
     }
@@ -102,7 +107,17 @@ fn listing_of(s: &mut [u8], input: &[u8], buffer: &mut [u8]) -> Option<usize>
         return None;
     }
     let sizes = verify::load_sizes(s);
-    list(s, sizes, input, buffer)
+    let mut listing = Listing {
+        machine: Machine {
+            state: State { bytes: s, sizes },
+            step: [0; line::STEP_SIZE],
+            message: [0; line::MESSAGE_SIZE],
+        },
+        held: [0; listing::HELD_SIZE],
+        have: 0,
+        number: 1,
+    };
+    list(&mut listing, input, buffer)
 }
 
 // The number of the line behind a byte of line `line`.
@@ -126,161 +141,157 @@ fn difference(a: &[u8], b: &[u8]) -> Option<u64> {
     if a.len() == b.len() { None } else { Some(line) }
 }
 
-// A buffer for a state, a file or a listing.
-fn big_buffer() -> [u8; 262144]
-    ensures { 262144 ≡ length result }
-{
-    [0; 262144]
-}
-
-// Reads until the buffer is full, the input ends or a read fails: how many bytes it put at the start of the buffer.
-fn read_full<R: Read>(from: &mut R, buf: &mut [u8]) -> usize
-    ensures { result ≤ length buf.new }
-{
-    let mut length = 0;
-    while length < buf.len() {
-        match from.read(&mut buf[length..]) {
-            Ok(n) if 0 < n => length += n,
-            _ => return length,
-        }
-    }
-    length
-}
-
-// Reads to the end: how many bytes. None: a read fails or more comes than the buffer holds.
-fn load<R: Read>(from: &mut R, buf: &mut [u8]) -> Option<usize>
-    ensures { IfSome result (λ n. n ≤ length buf.new) }
-{
-    let length = read_full(from, buf);
-    let mut rest = [0u8; 1];
-    match from.read(&mut rest) {
-        Ok(0) => Some(length),
-        _ => None,
-    }
-}
-
-// Reads the file that argument `i` names: how many bytes. None: it cannot be opened or read, or is longer than the buffer.
-fn read_file(rt: HostRuntime, i: usize, buf: &mut [u8]) -> Option<usize>
-    ensures { IfSome result (λ n. n ≤ length buf.new) }
-{
-    let mut word = word_buffer();
-    let n = argument(rt, i, &mut word);
-    if let Ok(name) = str::from_utf8(&word[..n]) {
-        match File::open(&rt, name) {
-            Ok(mut file) => return load(&mut file, buf),
-            // what standard error does not take is not said
-            Err(e) => _ = eprintln!(rt; "{name}: {e}"),
-        }
-    }
-    None
-}
-
 // The number of the first line in which the listing of `input` is not the one that is kept. What has no listing has an empty one.
-fn compare(s: &mut [u8], input: &[u8], kept: &[u8]) -> Option<u64> {
-    let mut out = big_buffer();
-    match listing_of(s, input, &mut out) {
-        Some(n) => difference(&out[..n], kept),
-        None => difference(b"", kept),
+fn compare(
+    alloc: Global,
+    s: &mut [u8],
+    input: &[u8],
+    kept: &[u8],
+) -> Result<Option<u64>, AllocError> {
+    let mut buffer = vec![in alloc; 0u8; MOST]?;
+    let listing = listing_of(s, input, &mut buffer).unwrap_or(b"");
+    Ok(difference(listing, kept))
+}
+
+// Reads to the end. None: a read fails, or more comes than a file may have.
+fn load<R: Read + Drop>(alloc: Global, from: R) -> Result<Option<Vec<u8>>, AllocError> {
+    let mut bytes = Vec::new(alloc);
+    match from.take(MOST as u64 + 1).read_to_end(&mut bytes) {
+        Ok(_) if bytes.len() <= MOST => Ok(Some(bytes)),
+        Err(e) if e.kind() == ErrorKind::OutOfMemory => Err(AllocError),
+        _ => Ok(None),
     }
 }
 
-// Room for an argument.
-fn word_buffer() -> [u8; 4096]
-    ensures { 4096 ≡ length result }
-{
-    [0; 4096]
-}
-
-// Argument `i` at the start of the buffer: how many bytes it has, 0 where there is none or it does not fit.
-fn argument(rt: HostRuntime, i: usize, buf: &mut [u8]) -> usize
-    ensures { result ≤ length buf.new }
-{
-    match rt.arg(i, buf) {
-        Ok(n) => n,
-        Err(_) => 0,
-    }
-}
-
-// How many arguments there are, the program's name among them.
-fn arg_count(rt: HostRuntime) -> usize {
-    let mut word = word_buffer();
-    for i in 0..usize::MAX {
-        if let Err(FillError::NotPresent) = rt.arg(i, &mut word) {
-            return i;
-        }
-    }
-    usize::MAX
-}
-
-// Names argument `i`, and what there is to say of it.
-fn say(rt: HostRuntime, i: usize, what: &[u8]) -> io::Result<()> {
-    let mut word = word_buffer();
-    let n = argument(rt, i, &mut word);
-    let mut out = rt.stdout();
-    out.write_all(b"replay: ")?;
-    out.write_all(&word[..n])?;
-    out.write_all(what)
-}
-
-// Says why a list does not agree.
-fn report(rt: HostRuntime, fault: Fault) -> io::Result<()> {
-    match fault {
-        Fault::Unmade(i) => say(rt, i, b": no sizes of a state, or too large\n"),
-        Fault::Unread(i) => say(rt, i, b": cannot be read whole\n"),
-        Fault::Rest(i) => say(rt, i, b": arguments come in threes\n"),
-        Fault::Differs(i, line) => {
-            say(rt, i, b": another listing, from line ")?;
-            println!(rt; "{line}")
+// Reads a file. None: it cannot be opened or read, or is too long.
+fn read_file(rt: HostRuntime, name: &[u8]) -> Result<Option<Vec<u8>>, AllocError> {
+    let Ok(name) = str::from_utf8(name) else {
+        return Ok(None);
+    };
+    match File::open(&rt, name) {
+        Ok(file) => load(rt.alloc(), file),
+        Err(e) => {
+            // what standard error does not take is not said
+            _ = eprintln!(rt; "{name}: {e}");
+            Ok(None)
         },
     }
 }
 
-// Does the list that the three arguments from `i` on name agree?
-fn replay_list(rt: HostRuntime, i: usize) -> Result<(), Fault>
-    requires { suc (suc i) < 18446744073709551616 }
-{
-    let mut state = big_buffer();
-    let mut sizes = word_buffer();
-    let mut input = big_buffer();
-    let mut kept = big_buffer();
-    let n = argument(rt, i, &mut sizes);
-    let steps = read_file(rt, i + 1, &mut input);
-    let lines = read_file(rt, i + 2, &mut kept);
-    if !open(&mut state, &sizes[..n]) {
-        return Err(Fault::Unmade(i));
-    }
-    let Some(steps) = steps else {
-        return Err(Fault::Unread(i + 1));
-    };
-    let Some(lines) = lines else {
-        return Err(Fault::Unread(i + 2));
-    };
-    match compare(&mut state, &input[..steps], &kept[..lines]) {
+// Does the list agree that the three arguments name?
+fn replay_list<'a>(
+    rt: HostRuntime,
+    sizes: &'a [u8],
+    steps: &'a [u8],
+    listing: &'a [u8],
+) -> Result<(), Fault<'a>> {
+    let mut state = vec![in rt.alloc(); 0u8; MOST]?;
+    let input = read_file(rt, steps)?;
+    let kept = read_file(rt, listing)?;
+    open(&mut state, sizes).ok_or(Fault::Unmade(sizes))?;
+    let input = input.ok_or(Fault::Unread(steps))?;
+    let kept = kept.ok_or(Fault::Unread(listing))?;
+    match compare(rt.alloc(), &mut state, &input, &kept)? {
         None => Ok(()),
-        Some(line) => Err(Fault::Differs(i + 1, line)),
+        Some(line) => Err(Fault::Differs(steps, line)),
+    }
+}
+
+// The same for three arguments, or what is left of them.
+fn replay_words(rt: HostRuntime, words: &[Vec<u8>]) -> Result<(), Fault<'_>> {
+    match words {
+        [sizes, steps, listing] => replay_list(rt, sizes, steps, listing),
+        [first, ..] => Err(Fault::Rest(first)),
+        [] => Ok(()),
+    }
+}
+
+// Argument `i`; an empty one, where it does not fit. None: there is none.
+fn argument(rt: HostRuntime, i: usize) -> Result<Option<Vec<u8>>, AllocError> {
+    let mut word = vec![in rt.alloc(); 0u8; WORD_SIZE]?;
+    match rt.arg(i, &mut word) {
+        Ok(n) => word.truncate(n),
+        Err(FillError::TooLong) => word.clear(),
+        Err(FillError::NotPresent) => return Ok(None),
+    }
+    Ok(Some(word))
+}
+
+// The arguments behind the program's name.
+fn arguments(rt: HostRuntime) -> Result<Vec<Vec<u8>>, AllocError> {
+    let mut words = Vec::new(rt.alloc());
+    for i in 1..usize::MAX {
+        let Some(word) = argument(rt, i)? else {
+            break;
+        };
+        words.push(word)?;
+    }
+    Ok(words)
+}
+
+// Names an argument, and what there is to say of it.
+fn say(rt: HostRuntime, word: &[u8], what: &[u8]) -> io::Result<()> {
+    let mut out = rt.stdout();
+    out.write_all(b"replay: ")?;
+    out.write_all(word)?;
+    out.write_all(what)
+}
+
+// Says why a list does not agree. Out of memory is an error of the program.
+fn report(rt: HostRuntime, fault: Fault<'_>) -> io::Result<()> {
+    match fault {
+        Fault::Unmade(sizes) => say(rt, sizes, b": no sizes of a state, or too large\n"),
+        Fault::Unread(name) => say(rt, name, b": cannot be read whole\n"),
+        Fault::Rest(word) => say(rt, word, b": arguments come in threes\n"),
+        Fault::Differs(steps, line) => {
+            say(rt, steps, b": another listing, from line ")?;
+            println!(rt; "{line}")
+        },
+        Fault::OutOfMemory => Err(io::Error::from(AllocError)),
     }
 }
 
 // Says how many agreed.
-fn tell(rt: HostRuntime, agreed: u64) -> io::Result<()> {
+fn tell(rt: HostRuntime, agreed: usize) -> io::Result<()> {
     println!(rt; "replay: listings that agree: {agreed}")
 }
 
 fn main(rt: HostRuntime) -> io::Result<()> {
-    let count = arg_count(rt);
-    let mut i: usize = 1;
-    let mut agreed: u64 = 0;
-    while i < count {
-        if count - i < 3 {
-            report(rt, Fault::Rest(i))?;
-            return tell(rt, agreed);
-        }
-        if let Err(fault) = replay_list(rt, i) {
+    let words = arguments(rt)?;
+    for (agreed, three) in words.chunks(3).enumerate() {
+        if let Err(fault) = replay_words(rt, three) {
             report(rt, fault)?;
             return tell(rt, agreed);
         }
-        agreed += 1;
-        i += 3;
     }
-    tell(rt, agreed)
+    tell(rt, words.len() / 3)
+}
+
+#[cfg(test)]
+mod tests {
+    use super::*;
+    use std::test::Fail;
+
+    #[test]
+    fn a_reader_is_loaded_whole(rt: HostRuntime) -> Result<(), Fail> {
+        let bytes = load(rt.alloc(), b"exit a\n".as_slice())?.ok_or("not loaded")?;
+        assert_eq!(rt; bytes.as_slice(), b"exit a\n".as_slice());
+        Ok(())
+    }
+
+    #[test]
+    fn the_listing_of_no_steps_agrees(rt: HostRuntime) -> Result<(), Fail> {
+        let mut state = vec![in rt.alloc(); 0u8; MOST]?;
+        open(&mut state, b"16,16,16,16,256,1000000").ok_or("not made")?;
+        let kept = b"step;answer;up;queue;asleep;ticks\n".as_slice();
+        assert_eq!(rt; compare(rt.alloc(), &mut state, b"", kept)?, None);
+        Ok(())
+    }
+
+    #[test]
+    fn arguments_are_read(rt: HostRuntime) -> Result<(), Fail> {
+        let words = arguments(rt)?;
+        assert!(rt; words.iter().all(|word| word.len() <= WORD_SIZE));
+        Ok(())
+    }
 }

@@ -7,3 +7,4 @@ pub mod Below
 pub mod Read
 pub mod Tests
 pub mod Reach
+pub mod Counting

@@ -1,6 +1,7 @@
 -- Walking a queue by its links: one theory for every link field. g is the link function, h the head, P what each number met must meet.
-use Rattle.std.specs.Prelude.{◌≡◌, refl, List, [], ◌∷◌, ◌++◌, ℕ, suc, ◌+◌, ◌-◌, ◌≤◌, length}
-use Rattle.std.proofs.Common.{sym, subst, ◌∙◌, arith, length-append}
+use Rattle.std.specs.Prelude.{◌≡◌, refl, List, [], ◌∷◌, ◌++◌, reverse, ℕ, suc, ◌+◌, ◌-◌, ◌≤◌, length}
+use Rattle.std.proofs.Common.{sym, ap, subst, ◌∙◌, append_assoc, arith, length-append}
+use Rattle.std.proofs.lemmas.List.{reverse-append}
 use Rattle.machine.specs.Good.{Each}
 use Rattle.chain.specs.Lists.{distinct-fits}
 use Rattle.chain.specs.Links.{Links, Chain, chain-walk, walk, final, final-end}
@@ -17,7 +18,7 @@ pub record Walking (g : ℕ → ℕ) (P : ℕ → Type 0) (h link last k : ℕ) 
 pub walk_start : {g : ℕ → ℕ} {P : ℕ → Type 0} {h : ℕ} → Walking g P h h 0 0
 walk_start = record { seen = []; prefix = refl; each = tt; count = refl; ends = refl }
 
-each_more : (P : ℕ → Type 0) (xs : List ℕ) (x : ℕ) → Each P xs → P x → Each P (xs ++ x ∷ [])
+pub each_more : (P : ℕ → Type 0) (xs : List ℕ) (x : ℕ) → Each P xs → P x → Each P (xs ++ x ∷ [])
 each_more P [] x a p = (p, tt)
 each_more P (y ∷ xs) x a p = (a.0, each_more P xs x a.1 p)
 
@@ -93,3 +94,10 @@ walk_end {n} {g} {P} {h} {link} {last} {k} w e b r =
     in
     let q : walk n g h ≡ w.seen = chain-walk c in
     record { chain = rw q c; each = rw q w.each; count = rw q w.count; ends = rw q w.ends }
+
+-- A list turned round about one of its numbers.
+pub reverse_about : (xs : List ℕ) (x : ℕ) (ys : List ℕ) → reverse (xs ++ x ∷ ys) ≡ reverse ys ++ x ∷ reverse xs
+reverse_about xs x ys =
+    reverse-append xs (x ∷ ys)
+    ∙ ap (λ (l : List ℕ). l ++ reverse xs) (reverse-append (x ∷ []) ys)
+    ∙ append_assoc (reverse ys) (x ∷ []) (reverse xs)

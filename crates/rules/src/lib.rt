@@ -11,7 +11,7 @@ use state::field::Field;
 use state::{Index, Sizes, View};
 
 // A state to be read. The bytes are at least those of a state of these sizes, the sizes are in range, and so is every field.
-#[derive(Clone, Copy)]
+#[derive(Clone, Copy, Debug, PartialEq, Eq)]
 pub struct Checked<'a> {
     pub bytes: &'a [u8],
     pub sizes: Sizes,
@@ -30,7 +30,7 @@ impl Checked<'_> {
         }
     }
 
-    // A field of record `i`.
+    // A field of record `i`. Beside `View::get`, since `view().get(..)` at each place would be no plainer.
     pub fn get<T: Number>(&self, f: Field<T>, i: Index) -> T
         requires { ReachIn self.now.sizes self.now.bytes.now (slot_of f T.width) i }
         ensures value { T.number result ≡ cell_in self.now.sizes self.now.bytes.now (slot_of f T.width) i }

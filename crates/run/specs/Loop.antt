@@ -1,66 +1,46 @@
 -- The loop over the steps.
-use Rattle.std.specs.Prelude.{◌≡◌, refl, Bool, false, List, [], ◌∷◌, ◌++◌, ℕ, suc, ◌+◌, ◌*◌, ◌-◌, ◌≤◌, ◌<◌, length, take, drop}
+use Rattle.std.specs.Prelude.{◌≡◌, Bool, false, List, [], ◌∷◌, ◌++◌, ℕ, suc, ◌+◌, ◌*◌, ◌-◌, ◌≤◌, ◌<◌, length, take, drop}
 use Rattle.std.proofs.Common.{sym, ap, subst, ◌∙◌, append_assoc, arith, zero-add, add-zero, length-append, length-drop, take-append-drop, length-take-le, take_at, drop_at}
 use Rattle.state.specs.WellFormed.{WellFormed}
 use Rattle.rules.specs.Code.{Decides}
 use Rattle.run.specs.Ran.{steps_in, OneRan, Ran, ended, full, onward}
-use Rattle.run.specs.Steps.{Whole}
 
--- Where the loop is: n steps are taken, the next is at `at`, and its record at k.
-pub record Reached (t a₀ a : List ℕ) (at k n : ℕ) : Type 0 where
-  pub steps : at ≤ length t
-  pub room : k ≤ length a
-  pub long : length a ≡ length a₀
-  pub count : k ≡ 160 * n
-
--- The run up to there, from the state s₀ and the answers a₀ to s and a: whatever the steps left do from there, all do from the start.
-pub record SoFar (t s₀ s a₀ a : List ℕ) (at k n : ℕ) : Type 0 where
+-- The run up to here, from the state s₀ and the answers a₀ to s and a: n of the steps in t are taken, and whatever those left in u do from here,
+-- all do from the start.
+pub record SoFar (t u s₀ s a₀ a : List ℕ) (n : ℕ) : Type 0 where
   pub rest
       : {s₂ a₂ : List ℕ} {m : ℕ}
-      → Ran (steps_in (drop at t)) s s₂ (drop k a) a₂ m
-      → Ran (steps_in t) s₀ s₂ a₀ (take k a ++ a₂) (n + m)
+      → Ran (steps_in u) s s₂ (drop (160 * n) a) a₂ m
+      → Ran (steps_in t) s₀ s₂ a₀ (take (160 * n) a ++ a₂) (n + m)
 
 -- On a state that is not well formed.
 pub record AllRefused (t a a' : List ℕ) (n : ℕ) : Type 0 where
   pub ran : (s : List ℕ) → (WellFormed s → ⊥) → Ran (steps_in t) s s a a' n
 
 -- At the start.
-pub reached_start : {t a : List ℕ} → Reached t a a 0 0 0
-reached_start = record { steps = omega arith; room = omega arith; long = refl; count = refl }
-
-pub so_far-start : {t s a : List ℕ} → SoFar t s s a a 0 0 0
+pub so_far-start : {t s a : List ℕ} → SoFar t t s s a a 0
 so_far-start {t} {s} {a} =
     record { rest = λ {s₂} {a₂} {m} q. subst (λ (x : ℕ). Ran (steps_in t) s s₂ a a₂ x) (sym (zero-add m)) q }
 
 -- No more steps.
 ran-end
-    : {t s₀ s a₀ a : List ℕ} {at k n : ℕ} → SoFar t s₀ s a₀ a at k n → Ran (steps_in (drop at t)) s s (drop k a) (drop k a) 0 → Ran (steps_in t) s₀ s a₀ a n
-ran-end {t} {s₀} {s} {a₀} {a} {at} {k} {n} f q =
+    : {t u s₀ s a₀ a : List ℕ} {n : ℕ} → SoFar t u s₀ s a₀ a n → Ran (steps_in u) s s (drop (160 * n) a) (drop (160 * n) a) 0 → Ran (steps_in t) s₀ s a₀ a n
+ran-end {t} {u} {s₀} {s} {a₀} {a} {n} f q =
     subst (λ (x : ℕ). Ran (steps_in t) s₀ s a₀ a x) (add-zero n)
-    (subst (λ (x : List ℕ). Ran (steps_in t) s₀ s a₀ x (n + 0)) (take-append-drop k a) (f.rest q))
+    (subst (λ (x : List ℕ). Ran (steps_in t) s₀ s a₀ x (n + 0)) (take-append-drop (160 * n) a) (f.rest q))
 
 -- No whole step is left.
-pub ran-ended : {t s₀ s a₀ a : List ℕ} {at k n : ℕ} → SoFar t s₀ s a₀ a at k n → steps_in (drop at t) ≡ [] → Ran (steps_in t) s₀ s a₀ a n
-ran-ended {s = s} {a = a} {k = k} f e = ran-end f (subst (λ (x : List (List ℕ)). Ran x s s (drop k a) (drop k a) 0) (sym e) ended)
+pub ran-ended : {t u s₀ s a₀ a : List ℕ} {n : ℕ} → SoFar t u s₀ s a₀ a n → steps_in u ≡ [] → Ran (steps_in t) s₀ s a₀ a n
+ran-ended {s = s} {a = a} {n = n} f e = ran-end f (subst (λ (x : List (List ℕ)). Ran x s s (drop (160 * n) a) (drop (160 * n) a) 0) (sym e) ended)
 
 -- No room is left.
 no_room : (bs : List (List ℕ)) {s a : List ℕ} → length a < 160 → Ran bs s s a a 0
 no_room [] h = ended
 no_room (b ∷ bs) h = full h
 
-pub ran-full : {t s₀ s a₀ a : List ℕ} {at k n : ℕ} → SoFar t s₀ s a₀ a at k n → length a - k < 160 → Ran (steps_in t) s₀ s a₀ a n
-ran-full {t} {a = a} {at = at} {k = k} f h = ran-end f (no_room (steps_in (drop at t)) (rw length-drop h))
-
--- One step more: the loop is at the next.
-pub reached_more
-    : {t a₀ a a₁ : List ℕ} {at e k n : ℕ}
-    → Reached t a₀ a at k n
-    → Whole t at e
-    → 160 ≤ length a - k
-    → length a₁ ≡ length a
-    → Reached t a₀ a₁ e (k + 160) (n + 1)
-reached_more c w h l =
-    record { steps = w.end; room = omega (arith, c.room); long = l ∙ c.long; count = omega (arith, c.count) }
+pub ran-full : {t u s₀ s a₀ a : List ℕ} {n m : ℕ} → SoFar t u s₀ s a₀ a n → length a - 160 * n < 160 → n ≡ m → Ran (steps_in t) s₀ s a₀ a m
+ran-full {t} {u} {s₀} {s} {a₀} {a} f h e =
+    subst (λ (x : ℕ). Ran (steps_in t) s₀ s a₀ a x) e (ran-end f (no_room (steps_in u) (rw length-drop h)))
 
 -- A record of 160 bytes at k is exchanged for another.
 record Exchanged (a a₁ r : List ℕ) (k : ℕ) : Type 0 where
@@ -85,38 +65,38 @@ exchanged {a} {a₁} {r} k h l e =
       behind = ap (drop (k + 160)) d ∙ drop_at (take k a ++ r) (drop 160 t) (k + 160) y;
     }
 
--- And the run goes on to there.
+-- One step more, and the run goes on from there.
 pub so_far_more
-    : {t s₀ s s₁ a₀ a a₁ r : List ℕ} {at e k n : ℕ}
-    → SoFar t s₀ s a₀ a at k n
-    → Reached t a₀ a at k n
-    → Whole t at e
-    → 160 ≤ length a - k
-    → OneRan s s₁ (take (e - (at + 4)) (drop (at + 4) t)) (take (k + 160 - k) (drop k a)) r
-    → a₁ ≡ take k a ++ (r ++ drop (k + 160 - k) (drop k a))
-    → SoFar t s₀ s₁ a₀ a₁ e (k + 160) (n + 1)
-so_far_more {t} {s₀} {s} {s₁} {a₀} {a} {a₁} {r} {at} {e} {k} {n} f c w h o d =
-    let x : k + 160 - k ≡ 160 = omega arith in
-    let o₁ : OneRan s s₁ (take (e - (at + 4)) (drop (at + 4) t)) (take 160 (drop k a)) r = rw x at o in
-    let g : Exchanged a a₁ r k = exchanged k (omega (arith, c.room)) o₁.long (rw x at d) in
-    let u : 160 ≤ length (drop k a) = rw length-drop h in
+    : {t u v s₀ s s₁ a₀ a a₁ b r : List ℕ} {n : ℕ}
+    → SoFar t u s₀ s a₀ a n
+    → steps_in u ≡ b ∷ steps_in v
+    → 160 * n + 160 ≤ length a
+    → OneRan s s₁ b (take (160 * n + 160 - 160 * n) (drop (160 * n) a)) r
+    → a₁ ≡ take (160 * n) a ++ (r ++ drop (160 * n + 160 - 160 * n) (drop (160 * n) a))
+    → SoFar t v s₀ s₁ a₀ a₁ (n + 1)
+so_far_more {t} {u} {v} {s₀} {s} {s₁} {a₀} {a} {a₁} {b} {r} {n} f w h o d =
+    let x : 160 * n + 160 - 160 * n ≡ 160 = omega arith in
+    let o₁ : OneRan s s₁ b (take 160 (drop (160 * n) a)) r = rw x at o in
+    let g : Exchanged a a₁ r (160 * n) = exchanged (160 * n) h o₁.long (rw x at d) in
+    let y : 160 ≤ length (drop (160 * n) a) = rw length-drop (omega (arith, h)) in
+    let z : 160 * (n + 1) ≡ 160 * n + 160 = omega arith in
     record {
       rest = λ {s₂} {a₂} {m} q.
-          let q₁ : Ran (steps_in (drop e t)) s₁ s₂ (drop 160 (drop k a)) a₂ m = rw g.behind at q in
-          let q₂ : Ran (steps_in (drop at t)) s s₂ (drop k a) (r ++ a₂) (suc m) = rw w.steps (onward u o₁ q₁) in
+          let q₁ : Ran (steps_in v) s₁ s₂ (drop 160 (drop (160 * n) a)) a₂ m = rw (z, g.behind) at q in
+          let q₂ : Ran (steps_in u) s s₂ (drop (160 * n) a) (r ++ a₂) (suc m) = rw w (onward y o₁ q₁) in
           let i : n + suc m ≡ n + 1 + m = omega arith in
-          let j : take k a ++ (r ++ a₂) ≡ take (k + 160) a₁ ++ a₂ =
-          sym (append_assoc (take k a) r a₂) ∙ ap (λ (z : List ℕ). z ++ a₂) (sym g.front)
+          let j : take (160 * n) a ++ (r ++ a₂) ≡ take (160 * (n + 1)) a₁ ++ a₂ =
+          sym (append_assoc (take (160 * n) a) r a₂) ∙ ap (λ (z : List ℕ). z ++ a₂) (sym (ap (λ (e : ℕ). take e a₁) z ∙ g.front))
           in
-          subst (λ (z : ℕ). Ran (steps_in t) s₀ s₂ a₀ (take (k + 160) a₁ ++ a₂) z) i
+          subst (λ (z : ℕ). Ran (steps_in t) s₀ s₂ a₀ (take (160 * (n + 1)) a₁ ++ a₂) z) i
           (subst (λ (z : List ℕ). Ran (steps_in t) s₀ s₂ a₀ z (n + suc m)) j (f.rest q₂));
     }
 
 -- The check said that the state is not well formed.
-pub ran-refused
+pub ran_refused
     : {t s a a' : List ℕ} {c : Bool} {n : ℕ}
     → c ≡ false
     → Decides c (WellFormed s)
     → AllRefused t a a' n
     → Ran (steps_in t) s s a a' n
-ran-refused {s = s} e d r = r.ran s (subst (λ (x : Bool). Decides x (WellFormed s)) e d)
+ran_refused {s = s} e d r = r.ran s (subst (λ (x : Bool). Decides x (WellFormed s)) e d)

@@ -11,7 +11,7 @@ use Rattle.outcome.specs.declared.Refusal.{Refusal}
 use Rattle.outcome.specs.declared.Refusal.TheVariants.{NotWellFormed}
 use Rattle.proc.specs.Taken.{Taken}
 use Rattle.step.specs.declared.Words.{Words}
-use Rattle.step.specs.Words.{Lent, lent, the_words, WordsAre}
+use Rattle.step.specs.Words.{Lent, lent, WordsAre}
 use Rattle.step.specs.After.{WellIn, formed_of, well-after}
 use Rattle.step.specs.Exported.{Exported, Replied, replies, refuses, replies_of, exported_answer, exported_refused}
 use Rattle.run.specs.Ran.{words_at, OneRan}
@@ -89,14 +89,15 @@ one-done {z} {s} {s'} {b} {m'} {r} {r₁} {r'} {p} {w} a t k e q d =
     }
 
 -- On a state that is not well formed: 1.
-pub one-refused : {s b r r' : List ℕ} → (WellFormed s → ⊥) → Written r r' (the_words 1 0 0 0) → OneRan s s b r r'
-one-refused {s} {b} {r} {r'} n d =
+pub one-refused
+    : {s b r r' : List ℕ} {w : Words} → (WellFormed s → ⊥) → WordsAre (Err NotWellFormed) w → Written r r' w → OneRan s s b r r'
+one-refused {s} {b} {r} {r'} n q d =
     let v : Replied s s b (drop 32 r) (drop 32 r) (Err NotWellFormed) =
     refuses n (record { reply = refl; message = refl; state = refl })
     in
     record {
       step =
           subst (λ (x : List ℕ). Exported s s b (drop 32 r) x (words_at r) (words_at r') (le 8 r' 0)) (sym d.message)
-          (exported_record r v (record { words = refl }) refl d);
+          (exported_record r v q refl d);
       long = d.long;
     }

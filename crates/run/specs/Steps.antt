@@ -1,7 +1,9 @@
 -- The steps in bytes, one by one.
-use Rattle.std.specs.Prelude.{if◌then◌else◌, ◌≡◌, refl, Bool, true, false, List, [], ◌∷◌, ℕ, zero, suc, ◌+◌, ◌*◌, ◌-◌, ◌≤◌, ◌<◌, ltb, length, take, drop, Option, Some, None}
-use Rattle.std.proofs.Common.{sym, ap, ap₂, ◌∙◌, arith, add-zero, add-suc, lt-ltb, le-ltb, ltb-true, ltb-false, length-drop, get_or-drop, drop-drop}
-use Rattle.memory.specs.Le.{le}
+use denote.Ref.{Bor}
+use Rattle.std.specs.Prelude.{if◌then◌else◌, ◌≡◌, refl, Bool, true, false, List, [], ◌∷◌, ℕ, zero, suc, ◌-◌, ◌≤◌, ◌<◌, ltb, length, take, drop, Option, Some, None, MatchOption}
+use Rattle.std.proofs.Common.{sym, ap, ap₂, ◌∙◌, arith, lt-ltb, le-ltb, length-drop, get_or-take, drop-drop}
+use Rattle.std.specs.List.{IsSplitAt}
+use Rattle.memory.specs.Le.{le, le_ext}
 use Rattle.run.specs.Ran.{first_end, steps_up_to, steps_in}
 
 -- As many as there are bytes are enough.
@@ -43,69 +45,26 @@ steps-some t h = go (length t) refl
         rw (le-ltb (length t) (first_end t) h)
         (ap (λ (x : List (List ℕ)). take (le 4 t 0) (drop 4 t) ∷ x) (enough k (length (drop (first_end t) t)) (drop (first_end t) t) (omega arith) (omega arith)))
 
--- Where the step at `at` ends; none where no whole step is there.
-unfoldable pub end_of : List ℕ → ℕ → Option ℕ
-end_of t at = if ltb (length (drop at t)) (first_end (drop at t)) then None else Some (at + first_end (drop at t))
+-- The number at the front of the first 4 bytes.
+le-front : (t : List ℕ) → le 4 (take 4 t) 0 ≡ le 4 t 0
+le-front t = le_ext 4 (take 4 t) t 0 (λ i a b. get_or-take 4 t i 0 b)
 
--- A number behind the first `at` bytes.
-le-drop : (n : ℕ) (t : List ℕ) (at i : ℕ) → le n (drop at t) i ≡ le n t (at + i)
-unfolding le
-le-drop zero t at i = refl
-le-drop (suc n) t at i = ap₂ (λ (a b : ℕ). a + 256 * b) (get_or-drop at t i 0) (le-drop n t at (suc i) ∙ ap (le n t) (add-suc at i))
+-- What the code of `split_step` shows: there is no length, or what is behind it is too short, or it is split there.
+pub split-short : (t : List ℕ) → length t < 4 → steps_in t ≡ []
+split-short t h = steps-none t (omega arith)
 
--- The length of the step at `at`.
-length_at : (t : List ℕ) (at : ℕ) → le 4 (drop at t) 0 ≡ le 4 t at
-length_at t at = le-drop 4 t at 0 ∙ ap (le 4 t) (add-zero at)
-
--- What the code answers: fewer than 4 bytes are left, fewer than the length says, or a whole step.
-pub end_short : (t : List ℕ) (at : ℕ) → length t - at < 4 → None ≡ end_of t at
-unfolding end_of
-end_short t at h = rw (lt-ltb (length (drop at t)) (first_end (drop at t)) (omega (arith, length-drop at t)))
-
-pub end-cut : (t : List ℕ) (at : ℕ) {n : ℕ} → n ≡ le 4 t at → length t - at - 4 < n → None ≡ end_of t at
-unfolding end_of
-end-cut t at e h = rw (lt-ltb (length (drop at t)) (first_end (drop at t)) (omega (arith, length-drop at t, length_at t at)))
-
-pub end_whole : (t : List ℕ) (at : ℕ) {n : ℕ} → 4 ≤ length t - at → n ≡ le 4 t at → n ≤ length t - at - 4 → Some (at + 4 + n) ≡ end_of t at
-unfolding end_of
-end_whole t at l e h =
-    rw (le-ltb (length (drop at t)) (first_end (drop at t)) (omega (arith, length-drop at t, length_at t at))) (ap (λ (k : ℕ). Some k) (omega (arith, length_at t at)))
-
-none-some : {n : ℕ} → None ≡ Some n → ⊥
-none-some e = let d : ◌≡◌ {A = ℕ} 0 1 = cc in omega arith
-
--- No whole step is there.
-pub end_none : (t : List ℕ) (at : ℕ) {o : Option ℕ} → o ≡ end_of t at → o ≡ None → steps_in (drop at t) ≡ []
-unfolding end_of
-end_none t at {o} h g = go (ltb (length (drop at t)) (first_end (drop at t))) refl
-  where
-    go : (b : Bool) → ltb (length (drop at t)) (first_end (drop at t)) ≡ b → steps_in (drop at t) ≡ []
-    go true d = steps-none (drop at t) (ltb-true (length (drop at t)) (first_end (drop at t)) d)
-    go false d = let f : o ≡ Some (at + first_end (drop at t)) = rw d at h in absurd (none-some (sym g ∙ f))
-
--- A whole step stands from `at` to e.
-pub record Whole (t : List ℕ) (at e : ℕ) : Type 0 where
-  pub start : at + 4 ≤ e
-  pub end : e ≤ length t
-  pub steps : steps_in (drop at t) ≡ take (e - (at + 4)) (drop (at + 4) t) ∷ steps_in (drop e t)
-
-pub end-some : {t : List ℕ} {at e : ℕ} {o : Option ℕ} → at ≤ length t → o ≡ end_of t at → o ≡ Some e → Whole t at e
-unfolding end_of
-end-some {t} {at} {e} {o} i h g = go (ltb (length (drop at t)) (first_end (drop at t))) refl
-  where
-    go : (b : Bool) → ltb (length (drop at t)) (first_end (drop at t)) ≡ b → Whole t at e
-    go true d = let f : o ≡ None = rw d at h in absurd (none-some (sym f ∙ g))
-    go false d =
-        let k : Some e ≡ Some (at + first_end (drop at t)) = sym g ∙ rw d at h in
-        let f : e ≡ at + first_end (drop at t) = cc in
-        let l : first_end (drop at t) ≤ length (drop at t) = ltb-false (length (drop at t)) (first_end (drop at t)) d in
-        let n : le 4 (drop at t) 0 ≡ e - (at + 4) = omega arith in
-        record {
-          start = omega arith;
-          end = omega (arith, length-drop at t);
-          steps =
-              steps-some (drop at t) l
-              ∙ ap₂ (λ (x y : List ℕ). x ∷ steps_in y)
-              (ap₂ (λ (k : ℕ) (x : List ℕ). take k x) n (drop-drop 4 at t))
-              (drop-drop (first_end (drop at t)) at t ∙ ap (λ (k : ℕ). drop k t) (sym f));
-        }
+pub split-rest
+    : (t : List ℕ) {head rest : List ℕ} {n : ℕ} (o : Option (Bor (List ℕ) × Bor (List ℕ)))
+    → IsSplitAt t 4 head rest
+    → n ≡ le 4 head 0
+    → MatchOption o (length rest < n) (λ p. IsSplitAt rest n p.0.now p.1.now)
+    → MatchOption o (steps_in t ≡ []) (λ p. steps_in t ≡ p.0.now ∷ steps_in p.1.now)
+split-rest t {head} {rest} {n} None h e m =
+    let y : n ≡ le 4 t 0 = e ∙ ap (λ (x : List ℕ). le 4 x 0) h.1 ∙ le-front t in
+    steps-none t (omega (arith, m, h.4))
+split-rest t {head} {rest} {n} (Some p) h e m =
+    let y : n ≡ le 4 t 0 = e ∙ ap (λ (x : List ℕ). le 4 x 0) h.1 ∙ le-front t in
+    let first : p.0.now ≡ take (le 4 t 0) (drop 4 t) = m.1 ∙ ap₂ (λ (k : ℕ) (x : List ℕ). take k x) y h.2 in
+    let behind : p.1.now ≡ drop (first_end t) t =
+    m.2 ∙ ap₂ (λ (k : ℕ) (x : List ℕ). drop k x) y h.2 ∙ drop-drop (le 4 t 0) 4 t in
+    steps-some t (omega (arith, m.0, h.4)) ∙ sym (ap₂ (λ (x u : List ℕ). x ∷ steps_in u) first behind)

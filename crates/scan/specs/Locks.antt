@@ -1,6 +1,8 @@
 -- All locks, with as many waiters as there are.
-use Rattle.std.specs.Prelude.{◌≡◌, refl, Bool, IsTrue, ◌↔◌, Some, None, ℕ, zero, suc, ◌+◌, ◌-◌, ◌≤◌, ◌<◌, length}
-use Rattle.std.proofs.Common.{subst, ⊎_elim, not-suc-le-zero, le_of_suc-le-suc, eq-or-lt_of_le, add-one, arith, below_more}
+use Rattle.std.specs.Prelude.{◌≡◌, refl, Bool, IsTrue, ◌↔◌, Option, Some, None, ℕ, zero, suc, ◌+◌, ◌-◌, ◌≤◌, ◌<◌, eqb, length}
+use Rattle.std.specs.Option.{option_eq}
+use Rattle.std.proofs.lemmas.Bool.{false≢true}
+use Rattle.std.proofs.Common.{sym, ◌∙◌, eq-eqb, eqb-true, subst, ⊎_elim, not-suc-le-zero, le_of_suc-le-suc, eq-or-lt_of_le, add-one, arith, below_more}
 use Rattle.machine.specs.Machine as machine
 use Rattle.layout.specs.Memory.{Memory}
 use Rattle.state.specs.Abs.{waiter_list}
@@ -68,13 +70,26 @@ locking_bad {z} {m} {total} {left} {q} p h k o =
       few = omega (arith, p.sum, o.sum, sum_more (waiters (sizes_in z) m) q, sum_rises (waiters (sizes_in z) m) (suc q) z.locks h);
     })
 
--- All locks were met: they are right, and so many wait in all, exactly where none is left.
+-- What the loop over all locks answers: how many of the total it did not meet, where each lock is right.
+abbrev pub Unmet : Sizes → Memory → ℕ → Option ℕ → Type 0
+Unmet z m total None = LocksOk (sizes_in z) m total → ⊥
+Unmet z m total (Some left) = Locking z m total left z.locks
+
 pub locking_end
-    : {z : Sizes} {m : Memory} {total left q : ℕ} {b : Bool}
+    : {z : Sizes} {m : Memory} {total left q : ℕ}
     → Locking z m total left q
     → z.locks ≤ q
-    → IsTrue b ↔ (left ≡ 0)
+    → Unmet z m total (Some left)
+locking_end {z} {m} {total} {left} {q} p l = subst (λ (x : ℕ). Locking z m total left x) (omega (arith, p.within)) p
+
+-- The locks are right, and so many wait in all, exactly where none is left.
+pub unmet_none
+    : {z : Sizes} {m : Memory} {total : ℕ} (r : Option ℕ) (b : Bool)
+    → Unmet z m total r
+    → b ≡ option_eq eqb r (Some 0)
     → IsTrue b ↔ LocksOk (sizes_in z) m total
-locking_end {z} {m} {total} {left} {q} p l d =
-    let w : Locking z m total left z.locks = subst (λ (x : ℕ). Locking z m total left x) (omega (arith, p.within)) p in
-    (λ t. let e : left ≡ 0 = d.0 t in record { each = w.each; sum = omega (arith, w.sum) }, λ o. d.1 (omega (arith, w.sum, o.sum)))
+unmet_none None b w e = (λ t. absurd (false≢true (sym e ∙ t)), λ o. absurd (w o))
+unmet_none (Some left) b w e = (
+  λ t. let d : left ≡ 0 = eqb-true left 0 (sym e ∙ t) in record { each = w.each; sum = omega (arith, w.sum, d) },
+  λ o. e ∙ eq-eqb left 0 (omega (arith, w.sum, o.sum)),
+)

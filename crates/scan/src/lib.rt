@@ -10,11 +10,11 @@ ghost use Rattle.scan.specs.Records.{SleepFits, SleeperOk};
 ghost use Rattle.scan.specs.Tallies.{Tally, Counted};
 ghost use Rattle.scan.specs.Lines.{Member, LineWalked};
 ghost use Rattle.scan.specs.Queues.{RunWalked, HeldOk, LockWalked};
-ghost use Rattle.scan.specs.Locks.{LocksOk};
+ghost use Rattle.scan.specs.Locks.{LocksOk, Unmet};
 ghost use Rattle.scan.specs.All.{QueuesOk, ProcessesOk};
 
 use rules::Checked;
-use state::{Count, Index, Link, field};
+use state::{CallKind, Count, Index, Link, ProcState, field};
 
 // Do two links lead to the same record, or both to none?
 fn same(a: Link, b: Link) -> bool
@@ -46,7 +46,7 @@ fn sleep_ok(v: &Checked, i: Index) -> bool
 {
     let object = v.get(field::RESUME_OBJECT, i);
     object < v.sizes.rendez
-        && (v.get(field::STATE_OF, i) != state::ASLEEP
+        && (v.get(field::STATE_OF, i) != ProcState::Asleep.number()
             || leads_to(v.get(field::SLEEPER_OF, object), i))
 }
 
@@ -57,14 +57,14 @@ pub fn call_ok(v: &Checked, i: Index) -> bool
 {
     let state = v.get(field::STATE_OF, i);
     let kind = v.get(field::RESUME_KIND, i);
-    if state == state::RUNNING {
-        return kind == state::NO_CALL && leads_to(v.get(field::UP, 0), i);
+    if state == ProcState::Running.number() {
+        return kind == CallKind::Nothing.number() && leads_to(v.get(field::UP, 0), i);
     }
-    match kind {
-        state::NO_CALL => state != state::ASLEEP,
-        state::SLEEP | state::TSLEEP => sleep_ok(v, i),
-        state::QLOCK => v.get(field::RESUME_OBJECT, i) < v.sizes.locks,
-        _ => true,
+    match CallKind::of(kind) {
+        Some(CallKind::Nothing) => state != ProcState::Asleep.number(),
+        Some(CallKind::Sleep | CallKind::Tsleep) => sleep_ok(v, i),
+        Some(CallKind::Qlock) => v.get(field::RESUME_OBJECT, i) < v.sizes.locks,
+        Some(CallKind::Wait) | None => true,
     }
 }
 
@@ -73,14 +73,16 @@ fn blank_ok(v: &Checked, i: Index) -> bool
     requires { i < v.now.sizes.processes }
     ensures { IsTrue result ↔ BlankAt (mem_in v.now.sizes v.now.bytes.now) i }
 {
-    match v.get(field::RESUME_KIND, i) {
-        state::SLEEP | state::TSLEEP => true,
-        state::QLOCK => v.get(field::RESUME_CONDITION, i) == 0,
-        _ => v.get(field::RESUME_CONDITION, i) == 0 && v.get(field::RESUME_OBJECT, i) == 0,
+    match CallKind::of(v.get(field::RESUME_KIND, i)) {
+        Some(CallKind::Sleep | CallKind::Tsleep) => true,
+        Some(CallKind::Qlock) => v.get(field::RESUME_CONDITION, i) == 0,
+        Some(CallKind::Nothing | CallKind::Wait) | None => {
+            v.get(field::RESUME_CONDITION, i) == 0 && v.get(field::RESUME_OBJECT, i) == 0
+        }
     }
 }
 
-// Does record `i` name no parent's record where it has no parent?
+// Does record `i` name no parent's record where it has no parent? 0 is for none: the layout gives the number, and it is compared as a number.
 fn orphan_ok(v: &Checked, i: Index) -> bool
     requires { i < v.now.sizes.processes }
     ensures { IsTrue result ↔ OrphanAt (mem_in v.now.sizes v.now.bytes.now) i }
@@ -94,10 +96,10 @@ fn link_ok(v: &Checked, i: Index) -> bool
     ensures { IsTrue result ↔ UnlinkedAt (mem_in v.now.sizes v.now.bytes.now) i }
 {
     v.get(field::NEXT, i).is_none()
-        || match v.get(field::STATE_OF, i) {
-            state::READY => true,
-            state::ASLEEP => v.get(field::RESUME_KIND, i) == state::QLOCK,
-            _ => false,
+        || match ProcState::of(v.get(field::STATE_OF, i)) {
+            Some(ProcState::Ready) => true,
+            Some(ProcState::Asleep) => v.get(field::RESUME_KIND, i) == CallKind::Qlock.number(),
+            Some(ProcState::Free | ProcState::Running) | None => false,
         }
 }
 
@@ -108,21 +110,21 @@ pub fn used_ok(v: &Checked, i: Index) -> bool
 {
     let pid = v.get(field::PID, i);
     let ticks = v.get(field::TICKS, 0);
-    v.get(field::STATE_OF, i) != state::FREE
+    v.get(field::STATE_OF, i) != ProcState::Free.number()
         && (pid < v.get(field::NEXT_PID, 0)
             && (v.get(field::PARENT, i) < pid
                 && (v.get(field::QUANTUM_END, i).saturating_sub(ticks) <= 10
                     && (call_ok(v, i) && (blank_ok(v, i) && orphan_ok(v, i))))))
 }
 
-// Is record `i` right by itself?
+// Is record `i` right by itself? The pid 0 is for a free record: the layout gives the number, and others are compared with it as numbers.
 pub fn record_ok(v: &Checked, i: Index) -> bool
     requires { i < v.now.sizes.processes }
     ensures { IsTrue result ↔ RecordOk (sizes_in v.now.sizes) (mem_in v.now.sizes v.now.bytes.now) i }
 {
     link_ok(v, i)
         && match v.get(field::PID, i) {
-            0 => v.get(field::STATE_OF, i) == state::FREE,
+            0 => v.get(field::STATE_OF, i) == ProcState::Free.number(),
             _ => used_ok(v, i),
         }
 }
@@ -140,8 +142,9 @@ fn sleeps_here(v: &Checked, r: Index, i: Index) -> bool
     ensures { IsTrue result ↔ SleepsHere (mem_in v.now.sizes v.now.bytes.now) r i }
 {
     let kind = v.get(field::RESUME_KIND, i);
-    v.get(field::STATE_OF, i) == state::ASLEEP
-        && ((kind == state::SLEEP || kind == state::TSLEEP) && v.get(field::RESUME_OBJECT, i) == r)
+    v.get(field::STATE_OF, i) == ProcState::Asleep.number()
+        && ((kind == CallKind::Sleep.number() || kind == CallKind::Tsleep.number())
+            && v.get(field::RESUME_OBJECT, i) == r)
 }
 
 // Is who is said to sleep on Rendez `r` asleep on it?
@@ -162,18 +165,18 @@ pub fn rendez_ok(v: &Checked) -> bool
     (0..v.sizes.rendez).all(|r| sleeper_ok(v, r))
 }
 
-// Is who is said to run running?
+// Is who is said to run running? Beside `sleeper_ok`: one function of both would take a closure that may be called only where the record is there.
 pub fn up_ok(v: &Checked) -> bool
     ensures { IsTrue result ↔ UpOk (mem_in v.now.sizes v.now.bytes.now) }
 {
     match v.get(field::UP, 0) {
         None => true,
-        Some(i) => v.get(field::STATE_OF, i) == state::RUNNING,
+        Some(i) => v.get(field::STATE_OF, i) == ProcState::Running.number(),
     }
 }
 
 // How many records are ready, asleep, and asleep for a lock.
-#[derive(Clone, Copy)]
+#[derive(Clone, Copy, Debug, PartialEq, Eq)]
 pub struct Counts {
     pub ready: Count,
     pub asleep: Count,
@@ -187,7 +190,7 @@ fn queueing_at(v: &Checked, i: Index) -> bool
 {
     let state = v.get(field::STATE_OF, i);
     let kind = v.get(field::RESUME_KIND, i);
-    state == state::ASLEEP && kind == state::QLOCK
+    state == ProcState::Asleep.number() && kind == CallKind::Qlock.number()
 }
 
 // 1 where a test holds, and 0 where it does not.
@@ -206,8 +209,8 @@ pub fn count_states(v: &Checked) -> Counts
     let mut queueing: Count = 0;
     for i in 0..v.sizes.processes {
         let state = v.get(field::STATE_OF, i);
-        ready += tally(state == state::READY);
-        asleep += tally(state == state::ASLEEP);
+        ready += tally(state == ProcState::Ready.number());
+        asleep += tally(state == ProcState::Asleep.number());
         queueing += tally(queueing_at(v, i));
     }
     Counts {
@@ -218,7 +221,7 @@ pub fn count_states(v: &Checked) -> Counts
 }
 
 // A queue: the run queue, or the waiters for a lock.
-#[derive(Clone, Copy)]
+#[derive(Clone, Copy, Debug, PartialEq, Eq)]
 enum Line {
     Run,
     Lock(Index),
@@ -229,8 +232,9 @@ fn waits_here(v: &Checked, q: Index, i: Index) -> bool
     requires { i < v.now.sizes.processes }
     ensures { IsTrue result ↔ WaitsHere (mem_in v.now.sizes v.now.bytes.now) q i }
 {
-    v.get(field::STATE_OF, i) == state::ASLEEP
-        && (v.get(field::RESUME_KIND, i) == state::QLOCK && v.get(field::RESUME_OBJECT, i) == q)
+    v.get(field::STATE_OF, i) == ProcState::Asleep.number()
+        && (v.get(field::RESUME_KIND, i) == CallKind::Qlock.number()
+            && v.get(field::RESUME_OBJECT, i) == q)
 }
 
 // May record `i` stand in this queue?
@@ -239,7 +243,7 @@ fn member_ok(v: &Checked, line: Line, i: Index) -> bool
     ensures { IsTrue result ↔ Member (mem_in v.now.sizes v.now.bytes.now) line i }
 {
     match line {
-        Line::Run => v.get(field::STATE_OF, i) == state::READY,
+        Line::Run => v.get(field::STATE_OF, i) == ProcState::Ready.number(),
         Line::Lock(q) => waits_here(v, q, i),
     }
 }
@@ -276,7 +280,8 @@ pub fn run_ok(v: &Checked) -> Option<Count>
     line_ok(v, Line::Run, head, tail, v.sizes.processes)
 }
 
-// Does nobody wait for lock `q` where it is not held?
+// Does nobody wait for lock `q` where it is not held? One expression, as in `orphan_ok`, of other fields of other types. The field is 0 or 1: the
+// layout gives the number, and it is compared as a number.
 fn held_ok(v: &Checked, q: Index) -> bool
     requires { q < v.now.sizes.locks }
     ensures { IsTrue result ↔ HeldOk (mem_in v.now.sizes v.now.bytes.now) q }
@@ -284,7 +289,8 @@ fn held_ok(v: &Checked, q: Index) -> bool
     v.get(field::HELD, q) != 0 || v.get(field::LOCK_HEAD, q).is_none()
 }
 
-// Is lock `q` right, with at most `left` waiters? Where it is, how many wait. No more than `left` are visited.
+// Is lock `q` right, with at most `left` waiters? Where it is, how many wait. No more than `left` are visited. Beside `run_ok`: the walk is
+// shared, and where its two ends stand is all that is left.
 pub fn lock_ok(v: &Checked, q: Index, left: Count) -> Option<Count>
     requires { q < v.now.sizes.locks }
     ensures { LockWalked v.now.sizes (mem_in v.now.sizes v.now.bytes.now) q left result }
@@ -297,18 +303,23 @@ pub fn lock_ok(v: &Checked, q: Index, left: Count) -> Option<Count>
     line_ok(v, Line::Lock(q), head, tail, left)
 }
 
+// Is each lock right, with at most `queueing` waiters in all? Where they are, how many of so many do not wait.
+fn unmet(v: &Checked, queueing: Count) -> Option<Count>
+    ensures { Unmet v.now.sizes (mem_in v.now.sizes v.now.bytes.now) queueing result }
+{
+    let mut left = queueing;
+    for q in 0..v.sizes.locks {
+        let count = lock_ok(v, q, left)?;
+        left -= count;
+    }
+    Some(left)
+}
+
 // Is each lock right, and do `queueing` records wait in all?
 pub fn locks_ok(v: &Checked, queueing: Count) -> bool
     ensures { IsTrue result ↔ LocksOk (sizes_in v.now.sizes) (mem_in v.now.sizes v.now.bytes.now) queueing }
 {
-    let mut left = queueing;
-    for q in 0..v.sizes.locks {
-        match lock_ok(v, q, left) {
-            None => return false,
-            Some(count) => left -= count,
-        }
-    }
-    left == 0
+    unmet(v, queueing) == Some(0)
 }
 
 // Is the number of the sleepers that the header has right? The caller has counted them.

@@ -2,6 +2,7 @@
 pub mod Fields
 pub mod Abs
 pub mod Tables
+pub mod Reads
 pub mod WellFormed
 pub mod Blanks
 pub mod Places
@@ -9,3 +10,4 @@ pub mod Shown
 pub mod Regions
 pub mod Lent
 pub mod Sets
+pub mod Process

@@ -1,5 +1,5 @@
 -- Stores to a lent state, one after another: what a run of them ensures of its bytes.
-use Rattle.std.specs.Prelude.{◌≡◌, List, [], ◌∷◌, ◌++◌, ℕ}
+use Rattle.std.specs.Prelude.{List, [], ◌∷◌, ◌++◌, ℕ}
 use Rattle.std.proofs.Common.{◌∙◌}
 use Rattle.layout.specs.Table.{Slot, field}
 use Rattle.layout.specs.Writes.{Write, to}

@@ -11,17 +11,18 @@ use crate::{Index, Sizes};
 use memory::Number;
 
 impl Sizes {
-    // Where a region starts, in bytes from the state's first.
+    // Where a region starts, in bytes from the state's first. Inlined, so that a field that is a constant costs no match.
+    #[inline(always)]
     #[tactic(auto, unfolding(layout::specs::Table::start))]
     pub fn start_of(self, region: Region) -> usize
         ensures value { result ≡ start_in self (region_number region) }
         ensures small { result < 33554432 }
     {
-        let p = self.processes as usize;
-        let r = self.rendez as usize;
-        let q = self.locks as usize;
-        let t = self.timers as usize + p;
-        let c = self.cells as usize;
+        let p = usize::from(self.processes);
+        let r = usize::from(self.rendez);
+        let q = usize::from(self.locks);
+        let t = usize::from(self.timers) + p;
+        let c = usize::from(self.cells);
         match region {
             Region::Header => 0,
             Region::Process => 80,
@@ -45,16 +46,17 @@ impl Sizes {
         ensures value { result ≡ total_in self }
         ensures small { result < 33554432 }
     {
-        let t = self.timers as usize + self.processes as usize;
+        let t = usize::from(self.timers) + usize::from(self.processes);
         self.start_of(Region::TimerLink) + 2 * t
     }
 
     // Where a field lies of record `i`.
+    #[inline(always)]
     fn place_of<T>(self, f: Field<T>, i: Index) -> usize
         ensures value { result ≡ place_in self (slot_of f 0) i }
         ensures small { result < 67108864 }
     {
-        self.start_of(f.0) + i as usize * f.0.stride() + f.1 as usize
+        self.start_of(f.0) + usize::from(i) * f.0.stride() + usize::from(f.1)
     }
 
     // Where the name of record `i` begins.
@@ -62,7 +64,7 @@ impl Sizes {
         ensures value { result ≡ start_in self 2 + i * 28 }
         ensures small { result < 67108864 }
     {
-        self.start_of(Region::Name) + i as usize * 28
+        self.start_of(Region::Name) + usize::from(i) * 28
     }
 
     // Where the message of cell `c` begins.
@@ -70,7 +72,7 @@ impl Sizes {
         ensures value { result ≡ start_in self 7 + c * 127 }
         ensures small { result < 67108864 }
     {
-        self.start_of(Region::Message) + c as usize * 127
+        self.start_of(Region::Message) + usize::from(c) * 127
     }
 }
 
@@ -103,7 +105,7 @@ impl State<'_> {
         ensures value { T.number result ≡ cell_in self.now.sizes self.now.bytes.now (slot_of f T.width) i }
         ensures fits { T.fits result }
     {
-        T::load(self.bytes, self.sizes.place_of(f, i))
+        self.view().get(f, i)
     }
 
     // Stores a field of record `i`.

@@ -28,6 +28,7 @@ pub enum Region {
 
 impl Region {
     // How many bytes a record of the region takes.
+    #[inline(always)]
     pub fn stride(self) -> usize
         ensures value { result ≡ stride layout1 (region_number self) }
         ensures small { result ≤ 80 }
@@ -51,7 +52,7 @@ impl Region {
 }
 
 // A field: the region whose records have it, the byte of a record at which it begins, and the type of what stands there.
-#[derive(Clone, Copy)]
+#[derive(Clone, Copy, Debug, PartialEq, Eq)]
 pub struct Field<T>(pub Region, pub u8, pub PhantomData<T>);
 
 // The header: tells a state of this kind from other bytes.

@@ -5,6 +5,9 @@ use Rattle.std.proofs.lemmas.Bool.{false≢true}
 use Rattle.std.proofs.Math.Option.{Option}
 use Rattle.machine.specs.Basics.{elem}
 use Rattle.machine.specs.Machine.{Machine}
+use Rattle.machine.specs.Machine as sizes
+use Rattle.layout.specs.Table.{total}
+use Rattle.state.specs.Fields as fields
 use Rattle.machine.specs.Good.{Each}
 use Rattle.machine.specs.Table.{table}
 use Rattle.machine.specs.Bytes.{decode}
@@ -13,6 +16,7 @@ use Rattle.machine.specs.Outcome as machine
 use Rattle.machine.specs.Outcome.{Outcome, Answer, answer, refused}
 use Rattle.machine.specs.StepOf.{outcome_of}
 use Rattle.state.specs.Abs.{abs}
+use Rattle.state.specs.Places.{total_in}
 use Rattle.state.specs.WellFormed.{WellFormed}
 use Rattle.state.specs.declared.Sizes.{Sizes}
 use Rattle.kept.specs.Total.{numbers, Comes, done, with_number, total-outcome}
@@ -73,6 +77,11 @@ pub data Replied (s s' b m m' : List ℕ) (r : Result Reply Refusal) : Type 0 wh
   replies : WellFormed s → Replies s s' b m m' r → Replied s s' b m m' r
   refuses : (WellFormed s → ⊥) → Refuses s s' m m' r → Replied s s' b m m' r
 
+-- Bytes that are well formed are at least those of the sizes that are read from them.
+well-fits : {z : Sizes} {s : List ℕ} → SizesRead s z → WellFormed s → total_in z ≤ length s
+well-fits {z} {s} r w =
+    omega (arith, w.rep.state.long, ap (λ (y : sizes.Sizes). total fields.layout1 (fields.counts y)) r.same)
+
 -- From the check: it said no.
 pub replied_no : {s b m : List ℕ} {c : Bool} → c ≡ false → Decides c (WellFormed s) → Replied s s b m m (Err NotWellFormed)
 replied_no {s} e d = refuses (subst (λ (x : Bool). Decides x (WellFormed s)) e d) (record { reply = refl; message = refl; state = refl })
@@ -81,14 +90,17 @@ replied_no {s} e d = refuses (subst (λ (x : Bool). Decides x (WellFormed s)) e 
 checked : {s : List ℕ} {c : Bool} → c ≡ true → Decides c (WellFormed s) → WellFormed s
 checked {s} e d = subst (λ (x : Bool). Decides x (WellFormed s)) e d
 
-pub checked-long : (s : List ℕ) {c : Bool} → c ≡ true → Decides c (WellFormed s) → 80 ≤ length s
-checked-long s e d = well-long (checked e d)
+pub checked_long : (s : List ℕ) {c : Bool} → c ≡ true → Decides c (WellFormed s) → 80 ≤ length s
+checked_long s e d = well-long (checked e d)
+
+pub checked_fits : {z : Sizes} {s : List ℕ} {c : Bool} → c ≡ true → Decides c (WellFormed s) → SizesRead s z → total_in z ≤ length s
+checked_fits e d r = well-fits r (checked e d)
 
 pub checked_in : {z : Sizes} {s : List ℕ} {c : Bool} → c ≡ true → Decides c (WellFormed s) → SizesRead s z → WellIn z s
 checked_in e d r = well_of (checked e d) r.same
 
-pub checked-well : {z : Sizes} {s : List ℕ} {c : Bool} → c ≡ true → Decides c (WellFormed s) → SizesRead s z → Well z s
-checked-well e d r = (checked_in e d r).well
+pub checked_well : {z : Sizes} {s : List ℕ} {c : Bool} → c ≡ true → Decides c (WellFormed s) → SizesRead s z → Well z s
+checked_well e d r = (checked_in e d r).well
 
 pub replies_of
     : {z : Sizes} {s s' b m m' : List ℕ} {r : Result Reply Refusal} → WellIn z s → Taken z s s' (decode b) m m' r → Replies s s' b m m' r

@@ -6,8 +6,10 @@ ghost use Rattle.step.specs.Words.{lent, the_words, WordsAre};
 ghost use Rattle.step.specs.Exported.{Replied, Exported};
 
 use outcome::{Refusal, Reply};
+use state::State;
 
-// The numbers that stand for answers: all above those of the refusals, which stand for themselves.
+// The numbers that stand for answers: all above those of the refusals, which stand for themselves. They are C's (include/huiabunk.h), and so are
+// the words of an answer.
 pub const DONE: u64 = 32;
 
 pub const ASLEEP: u64 = 33;
@@ -73,25 +75,28 @@ impl From<Result<Reply, Refusal>> for Words {
             Ok(Reply::Child { pid, length }) => in_words(CHILD, pid, 0, length as u64),
             Ok(Reply::Idle) => in_words(IDLE, 0, 0, 0),
             Ok(Reply::End) => in_words(END, 0, 0, 0),
-            Err(refusal) => in_words(refusal.number() as u64, 0, 0, 0),
+            Err(refusal) => in_words(u64::from(refusal.number()), 0, 0, 0),
         }
     }
 }
 
 // Takes the step that the bytes `b` are, where `s` is well formed.
+#[tactic(auto, using(crate::specs::Exported::checked_long, crate::specs::Exported::checked_fits, crate::specs::Exported::checked_well, crate::specs::Exported::replied_taken, crate::specs::Exported::replied_no))]
 fn reply_to(s: &mut [u8], b: &[u8], message: &mut [u8]) -> Result<Reply, Refusal>
     ensures { Replied s.old s.new b.now message.old message.new result }
 {
     let formed = verify::check(s);
     if formed {
-        let z = verify::load_sizes(s);
-        return proc::take(s, z, b, message);
+        let sizes = verify::load_sizes(s);
+        return proc::take(&mut State { bytes: s, sizes }, b, message);
     }
     Err(Refusal::NotWellFormed)
 }
 
 // Takes one step: `s` a state, `b` the step's bytes, `message` for the exit message that a wait tells. Any bytes, any lengths.
 // Answers the number of the refusal, below 32, or of the answer; then `first`, `second` and `length` are its words.
+// C reads them in three lent numbers here, and in a record after `run`: so of a refusal each leaves them in its own way.
+#[tactic(auto, using(crate::specs::Exported::exported_answer))]
 pub fn step(
     s: &mut [u8],
     b: &[u8],

@@ -5,7 +5,7 @@ use Rattle.machine.specs.Machine as machine
 use Rattle.machine.specs.Listing.{header, steps_sizes}
 use Rattle.state.specs.declared.Sizes.{Sizes}
 use Rattle.listing.specs.Held.{held_most}
-use Rattle.listing.specs.Start.{Started}
+use Rattle.listing.specs.Start.{state_size, Started}
 use Rattle.listing.specs.Written.{Written, written_start}
 use Rattle.steps.specs.Chunk.{Asks}
 use Rattle.steps.specs.Some.{chunk_most, SomeAsks, On, SomeTaken}
@@ -51,11 +51,17 @@ pub all-more
 all-more {z} {s} {held = held} {have = have} {n = n} {s' = s'} {held' = held'} {have' = have'} {n' = n'} g h t li lo =
     let o : On z s' held' have' n' g.read.input g.read.output = t.goes refl g.read.input g.read.output g.read.written in
     record {
-      asks = record { well = t.well; line = t.line refl; room = omega (arith, g.asks.room); few = t.few refl };
+      asks = record { well = t.well; line = t.line; room = omega (arith, g.asks.room); few = t.few };
       most = omega (arith, g.most);
       read = record { input = g.read.input ++ o.chunk; output = g.read.output ++ o.lines; written = o.written };
-      numbers = omega (arith, g.numbers, t.numbers refl);
+      numbers = omega (arith, g.numbers, t.numbers);
     }
+
+-- Room for the state, for a chunk and for what is written at once.
+pub record InputAsks (s input out : List ℕ) : Type 0 where
+  pub state : state_size ≤ length s
+  pub most : length input ≡ chunk_most
+  pub room : length out ≡ chunk_most
 
 -- A fresh state of 16 processes.
 pub all-asks

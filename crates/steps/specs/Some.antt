@@ -1,7 +1,7 @@
 -- One reading: a chunk is taken, or at the end of the input the last line.
-use Rattle.std.specs.Prelude.{◌≡◌, refl, Bool, true, false, List, ◌++◌, ℕ, ◌+◌, ◌^◌, ◌≤◌, ◌<◌, length}
+use Rattle.std.specs.Prelude.{◌≡◌, Bool, true, false, List, ◌++◌, ℕ, ◌+◌, ◌^◌, ◌≤◌, ◌<◌, length}
 use Rattle.std.proofs.lemmas.Bool.{false≢true}
-use Rattle.std.proofs.Common.{arith, true≢false}
+use Rattle.std.proofs.Common.{ap, ◌∙◌, arith, true≢false}
 use Rattle.machine.specs.Listing.{listing_at}
 use Rattle.state.specs.Places.{sizes_in}
 use Rattle.state.specs.declared.Sizes.{Sizes}
@@ -54,9 +54,9 @@ pub record On (z : Sizes) (s held : List ℕ) (have n : ℕ) (input output : Lis
 -- Where the input goes on, a chunk was read and taken whole; else the last line was taken.
 pub record SomeTaken (z : Sizes) (s held : List ℕ) (have n : ℕ) (s' held' : List ℕ) (have' n' : ℕ) (more : Bool) : Type 0 where
   pub well : Well z s'
-  pub line : more ≡ true → length held' ≡ held_most
-  pub few : more ≡ true → have' ≤ held_most
-  pub numbers : more ≡ true → n' ≤ n + chunk_most
+  pub line : length held' ≡ held_most
+  pub few : have' ≤ held_most
+  pub numbers : n' ≤ n + chunk_most
   pub goes : more ≡ true → (input output : List ℕ) → Written z s held have n input output → On z s' held' have' n' input output
   pub last : more ≡ false → LastTaken z s held have n s'
 
@@ -72,24 +72,28 @@ pub some-taken
 some-taken {chunk = chunk} h t =
     record {
       well = t.well;
-      line = λ e. t.line;
-      few = λ e. t.few;
-      numbers = λ e. omega (arith, t.numbers);
+      line = t.line;
+      few = t.few;
+      numbers = omega (arith, t.numbers);
       goes = λ e input output w.
           record { chunk = chunk; lines = (t.whole input output w).lines; written = (t.whole input output w).written };
       last = λ e. absurd (true≢false e);
     }
 
 pub some-last
-    : {z : Sizes} {s held : List ℕ} {have n : ℕ} {s' held' : List ℕ} {have' n' : ℕ}
+    : {z : Sizes} {s input held out : List ℕ} {have n : ℕ} {s' held' : List ℕ} {have' n' : ℕ}
+    → SomeAsks z s input held out have n
     → LastTaken z s held have n s'
+    → held' ≡ held
+    → have' ≡ have
+    → n' ≡ n
     → SomeTaken z s held have n s' held' have' n' false
-some-last t =
+some-last a t e f g =
     record {
       well = t.well;
-      line = λ e. absurd (false≢true e);
-      few = λ e. absurd (false≢true e);
-      numbers = λ e. absurd (false≢true e);
-      goes = λ e. absurd (false≢true e);
-      last = λ e. t;
+      line = ap length e ∙ a.asks.line;
+      few = omega (arith, a.asks.few);
+      numbers = omega arith;
+      goes = λ q. absurd (false≢true q);
+      last = λ q. t;
     }

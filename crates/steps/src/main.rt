@@ -5,11 +5,12 @@ ghost use Rattle.std.specs.Prelude.{◌≡◌, IfOk, OnOk, OnErr, length};
 ghost use Rattle.outcome.specs.Stepped.{Well};
 ghost use Rattle.steps.specs.Chunk.{Asks, ChunkAsks, ChunkTaken};
 ghost use Rattle.steps.specs.Some.{LastTaken, SomeAsks, SomeTaken};
-ghost use Rattle.steps.specs.All.{AllAsks};
+ghost use Rattle.steps.specs.All.{AllAsks, InputAsks};
 
 use line::Machine;
 use listing::Listing;
 use print::Out;
+use state::State;
 use std::io;
 use std::io::{Read, Write};
 
@@ -23,18 +24,18 @@ fn take_chunk<W: Write>(
     chunk: &[u8],
     buffer: &mut [u8],
 ) -> io::Result<()>
-    requires { ChunkAsks listing.old.machine.sizes listing.old.machine.state.now chunk.now listing.old.held buffer.old listing.old.have listing.old.number }
-    ensures taken { OnOk result (ChunkTaken listing.old.machine.sizes chunk.now listing.old.machine.state.now listing.old.held listing.old.have listing.old.number listing.new.machine.state.now listing.new.held listing.new.have listing.new.number) }
-    ensures failed { OnErr result (Well listing.old.machine.sizes listing.new.machine.state.now) }
-    ensures sizes { listing.new.machine.sizes ≡ listing.old.machine.sizes }
+    requires { ChunkAsks listing.old.machine.state.sizes listing.old.machine.state.bytes.now chunk.now listing.old.held buffer.old listing.old.have listing.old.number }
+    ensures taken { OnOk result (ChunkTaken listing.old.machine.state.sizes chunk.now listing.old.machine.state.bytes.now listing.old.held listing.old.have listing.old.number listing.new.machine.state.bytes.now listing.new.held listing.new.have listing.new.number) }
+    ensures failed { OnErr result (Well listing.old.machine.state.sizes listing.new.machine.state.bytes.now) }
+    ensures sizes { listing.new.machine.state.sizes ≡ listing.old.machine.state.sizes }
 {
-    let mut from = 0;
-    while from < chunk.len() {
+    let mut rest = chunk;
+    while !rest.is_empty() {
         let mut out = Out {
             bytes: &mut *buffer,
             used: 0,
         };
-        from = listing.feed(chunk, from, &mut out);
+        rest = listing.feed(rest, &mut out);
         let used = out.used;
         to.write_all(&buffer[..used])?;
     }
@@ -43,9 +44,12 @@ fn take_chunk<W: Write>(
 
 // Takes a last line without its line end, and writes its line of the listing to `to`. The line is taken also where the writer fails.
 fn take_last<W: Write>(to: &mut W, listing: &mut Listing, buffer: &mut [u8]) -> io::Result<()>
-    requires { Asks listing.old.machine.sizes listing.old.machine.state.now listing.old.held buffer.old listing.old.have }
-    ensures taken { LastTaken listing.old.machine.sizes listing.old.machine.state.now listing.old.held listing.old.have listing.old.number listing.new.machine.state.now }
-    ensures sizes { listing.new.machine.sizes ≡ listing.old.machine.sizes }
+    requires { Asks listing.old.machine.state.sizes listing.old.machine.state.bytes.now listing.old.held buffer.old listing.old.have }
+    ensures taken { LastTaken listing.old.machine.state.sizes listing.old.machine.state.bytes.now listing.old.held listing.old.have listing.old.number listing.new.machine.state.bytes.now }
+    ensures held { listing.new.held ≡ listing.old.held }
+    ensures have { listing.new.have ≡ listing.old.have }
+    ensures number { listing.new.number ≡ listing.old.number }
+    ensures sizes { listing.new.machine.state.sizes ≡ listing.old.machine.state.sizes }
 {
     let mut out = Out {
         bytes: buffer,
@@ -65,10 +69,10 @@ fn take_some<R: Read, W: Write>(
     input: &mut [u8],
     buffer: &mut [u8],
 ) -> io::Result<bool>
-    requires { SomeAsks listing.old.machine.sizes listing.old.machine.state.now input.old listing.old.held buffer.old listing.old.have listing.old.number }
-    ensures taken { IfOk result (λ more. SomeTaken listing.old.machine.sizes listing.old.machine.state.now listing.old.held listing.old.have listing.old.number listing.new.machine.state.now listing.new.held listing.new.have listing.new.number more) }
-    ensures failed { OnErr result (Well listing.old.machine.sizes listing.new.machine.state.now) }
-    ensures sizes { listing.new.machine.sizes ≡ listing.old.machine.sizes }
+    requires { SomeAsks listing.old.machine.state.sizes listing.old.machine.state.bytes.now input.old listing.old.held buffer.old listing.old.have listing.old.number }
+    ensures taken { IfOk result (λ more. SomeTaken listing.old.machine.state.sizes listing.old.machine.state.bytes.now listing.old.held listing.old.have listing.old.number listing.new.machine.state.bytes.now listing.new.held listing.new.have listing.new.number more) }
+    ensures failed { OnErr result (Well listing.old.machine.state.sizes listing.new.machine.state.bytes.now) }
+    ensures sizes { listing.new.machine.state.sizes ≡ listing.old.machine.state.sizes }
 {
     let n = from.read(input)?;
     if n == 0 {
@@ -90,7 +94,7 @@ fn take_all<R: Read, W: Write>(
     input: &mut [u8],
     buffer: &mut [u8],
 ) -> io::Result<()>
-    requires { AllAsks listing.old.machine.sizes listing.old.machine.state.now input.old listing.old.held buffer.old listing.old.have listing.old.number }
+    requires { AllAsks listing.old.machine.state.sizes listing.old.machine.state.bytes.now input.old listing.old.held buffer.old listing.old.have listing.old.number }
 {
     for turn in 0..TURNS {
         if !take_some(from, to, listing, input, buffer)? {
@@ -100,15 +104,19 @@ fn take_all<R: Read, W: Write>(
     Ok(())
 }
 
-fn main(rt: HostRuntime) -> io::Result<()> {
-    let mut state = [0u8; listing::STATE_SIZE];
-    let mut input = [0u8; CHUNK_SIZE];
-    let mut buffer = [0u8; CHUNK_SIZE];
-    let mut from = rt.stdin();
-    let mut to = rt.stdout();
-    let sizes = listing::start(&mut state);
+// Takes the input, and writes the listing, from a fresh state on.
+fn take_input<R: Read, W: Write>(
+    from: &mut R,
+    to: &mut W,
+    state: &mut [u8],
+    input: &mut [u8],
+    buffer: &mut [u8],
+) -> io::Result<()>
+    requires { InputAsks state.old input.old buffer.old }
+{
+    let sizes = listing::start(state);
     let mut out = Out {
-        bytes: &mut buffer,
+        bytes: &mut *buffer,
         used: 0,
     };
     listing::begin(&mut out);
@@ -116,8 +124,10 @@ fn main(rt: HostRuntime) -> io::Result<()> {
     to.write_all(&out.bytes[..used])?;
     let mut listing = Listing {
         machine: Machine {
-            state: &mut state,
-            sizes,
+            state: State {
+                bytes: state,
+                sizes,
+            },
             step: [0; line::STEP_SIZE],
             message: [0; line::MESSAGE_SIZE],
         },
@@ -125,5 +135,14 @@ fn main(rt: HostRuntime) -> io::Result<()> {
         have: 0,
         number: 1,
     };
-    take_all(&mut from, &mut to, &mut listing, &mut input, &mut buffer)
+    take_all(from, to, &mut listing, input, buffer)
+}
+
+fn main(rt: HostRuntime) -> io::Result<()> {
+    let mut state = vec![in rt.alloc(); 0u8; listing::STATE_SIZE]?;
+    let mut input = vec![in rt.alloc(); 0u8; CHUNK_SIZE]?;
+    let mut buffer = vec![in rt.alloc(); 0u8; CHUNK_SIZE]?;
+    let mut from = rt.stdin();
+    let mut to = rt.stdout();
+    take_input(&mut from, &mut to, &mut state, &mut input, &mut buffer)
 }

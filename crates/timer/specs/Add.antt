@@ -6,12 +6,12 @@ use Rattle.machine.specs.Timers.{insert, add, delete}
 use Rattle.machine.specs.Update.{with_queued}
 use Rattle.layout.specs.Memory.{Memory, alter}
 use Rattle.layout.specs.Writes.{Write}
+use Rattle.chain.specs.Lists.{none-absent}
 use Rattle.state.specs.Fields as fields
 use Rattle.state.specs.Abs.{run_list, waiter_list, exit_list, waits_on, exit_at, process_at, machine_of}
 use Rattle.state.specs.Places.{sizes_in, mem_in, Wrote, wrote_join}
 use Rattle.state.specs.declared.Sizes.{Sizes}
 use Rattle.timers.specs.Find.{timers_in, queue_in, spot_in}
-use Rattle.timers.specs.Out.{none-absent}
 use Rattle.timers.specs.Insert.{insert_stores, insert_mem, link_mem, head_field, queued_in, InsertAsks, Inserted, Entered}
 use Rattle.timers.specs.Linked.{spot-queued}
 use Rattle.holds.specs.Holds.{Holds}

@@ -4,13 +4,13 @@ use Rattle.std.proofs.Common.{subst, sym, ap, ◌∙◌, arith}
 use Rattle.layout.specs.Table.{slot}
 use Rattle.state.specs.Fields as fields
 use Rattle.state.specs.Lent.{Same}
-use Rattle.state.specs.Places.{mem_in, ReachIn, PutIn}
+use Rattle.state.specs.Places.{mem_in, ReachIn}
 use Rattle.state.specs.declared.Sizes.{Sizes}
 use Rattle.state.specs.declared.lent.State.{State}
 use Rattle.timer.specs.Only.{Owing}
 use Rattle.timer.specs.Del.{TimerAsks, Deleted}
 use Rattle.timer.specs.Add.{QueueAsks, QueuedAt, Added, queue-asks, added}
-use Rattle.timer.specs.Pop.{PopAsks, pop-asks, pop-reach, popped}
+use Rattle.timer.specs.Pop.{PopAsks, pop-asks, pop-reach}
 use Rattle.timer.specs.Due.{PoppedDue, popped-none, popped-later, popped-due}
 
 -- `add`: a timer that was taken off is put on.
@@ -25,19 +25,6 @@ pub added-to
     → QueuedAt s₁.sizes s₁.bytes.now s₂ t d
     → Added s.sizes s.bytes.now s₂ t d
 added-to a k o q = added a o (rw k.sizes at q)
-
--- `pop`: three stores.
-pub popped-off
-    : {s s₁ s₂ : State} {s₃ : List ℕ} {t n : ℕ}
-    → PopAsks s.sizes s.bytes.now t
-    → Same s s₁
-    → Same s₁ s₂
-    → n ≡ mem_in s.sizes s.bytes.now fields.timer_next t
-    → PutIn s.sizes s.bytes.now s₁.bytes.now (slot 0 34 2) 0 n
-    → PutIn s₁.sizes s₁.bytes.now s₂.bytes.now (slot 12 0 2) t 0
-    → PutIn s₂.sizes s₂.bytes.now s₃ (slot 5 20 1) t 0
-    → Deleted s.sizes s.bytes.now s₃ t
-popped-off a k₁ k₂ e p₁ p₂ p₃ = popped a e p₁ (rw k₁.sizes at p₂) (rw (k₂.sizes ∙ k₁.sizes) at p₃)
 
 -- `pop_due`: the header's link is to timer t.
 module _ {z : Sizes} {s : List ℕ} {t : ℕ} (o : Owing z s) (e : suc t ≡ mem_in z s fields.timer_head 0) where

@@ -1,20 +1,20 @@
 -- The head of the queue is taken off.
-use Rattle.std.specs.Prelude.{◌≡◌, refl, List, ◌∷◌, ℕ, suc, ◌-◌, ◌<◌}
-use Rattle.std.proofs.Common.{sym, ap, subst, ◌∙◌, arith, eq-eqb, lit<}
+use Rattle.std.specs.Prelude.{◌≡◌, refl, true, not, List, ◌∷◌, ℕ, suc, ◌-◌, ◌<◌}
+use Rattle.std.proofs.Common.{sym, ap, subst, ◌∙◌, arith, eq-eqb, ne_eqb, lit<}
 use Rattle.machine.specs.Basics.{count, filter}
 use Rattle.machine.specs.Timers.{remove}
 use Rattle.layout.specs.Memory.{Memory, Ranged}
 use Rattle.layout.specs.Table.{slot}
-use Rattle.chain.specs.Lists.{Absent}
+use Rattle.chain.specs.Lists.{Absent, filter-absent}
 use Rattle.state.specs.Fields as fields
-use Rattle.state.specs.Abs.{timer_list}
-use Rattle.state.specs.Places.{mem_in, ReachIn, PutIn}
+use Rattle.state.specs.Abs.{is_set, timer_list}
+use Rattle.state.specs.Places.{mem_in, ReachIn, Wrote}
 use Rattle.state.specs.declared.Sizes.{Sizes}
 use Rattle.timers.specs.Find.{timers_in, queue_in, from_link, Chained, next-left}
 use Rattle.timers.specs.Entries.{entries}
-use Rattle.timers.specs.Out.{without, before, without-absent, remove-entries}
-use Rattle.timers.specs.Insert.{wrote_2}
-use Rattle.timers.specs.Remove.{removed-one}
+use Rattle.timers.specs.Out.{without, before, remove-entries}
+use Rattle.timers.specs.Insert.{LinkAsks}
+use Rattle.timers.specs.Remove.{remove_stores, removed-one}
 use Rattle.timers.specs.Seek.{Sought}
 use Rattle.timer.specs.Only.{Owing}
 use Rattle.timer.specs.Del.{TimerAsks, Deleted, remove-asks, deleted}
@@ -68,25 +68,22 @@ before_head t ys = rw (eq-eqb t t refl)
 
 without-head : (t : ℕ) (ys : List ℕ) → Absent t ys → without t (t ∷ ys) ≡ ys
 unfolding filter
-without-head t ys a = rw (eq-eqb t t refl) (without-absent t ys a)
+without-head t ys a = rw (eq-eqb t t refl) (filter-absent t ys a)
 
 pub remove-head : (key : ℕ → ℕ) (t : ℕ) (ys : List ℕ) → Absent t ys → remove t (entries key (t ∷ ys)) ≡ entries key ys
 remove-head key t ys a = sym (remove-entries key t (t ∷ ys)) ∙ ap (entries key) (without-head t ys a)
 
--- What the code of `pop` shows.
+-- What the code of `pop` shows: the head is taken out from behind no link.
 pub popped
-    : {z : Sizes} {s s₁ s₂ s₃ : List ℕ} {t n : ℕ}
-    → PopAsks z s t
-    → n ≡ mem_in z s fields.timer_next t
-    → PutIn z s s₁ (slot 0 34 2) 0 n
-    → PutIn z s₁ s₂ (slot 12 0 2) t 0
-    → PutIn z s₂ s₃ (slot 5 20 1) t 0
-    → Deleted z s s₃ t
-popped {z} {s} {s₁} {s₂} {s₃} {t} {n} a e p₁ p₂ p₃ =
+    : {z : Sizes} {s s₁ : List ℕ} {t : ℕ} → PopAsks z s t → Wrote z s s₁ (remove_stores (mem_in z s) 1 0 t) → Deleted z s s₁ t
+popped {z} {s} {s₁} {t} a w =
     let m : Memory = mem_in z s in
     let ys : List ℕ = from_link z m (m fields.timer_next t) in
     let q : queue_in z m ≡ t ∷ ys = split-head z s t a.owing a.head in
     let b : Sought z m t 0 = record { place = sym (ap (λ (l : List ℕ). before t 0 l) q ∙ before_head t ys); range = omega arith } in
+    let on : is_set (m fields.is_queued t) ≡ true = ap not (ne_eqb (m fields.is_queued t) 0 (λ e. absurd (omega (arith, head-on a, e)))) in
     let asks : TimerAsks z s t = record { owing = a.owing; index = a.index } in
-    deleted asks
-    (removed-one (remove-asks asks) refl (λ e. absurd (omega (arith, head-on a, e))) b (wrote_2 (subst (λ (v : ℕ). PutIn z s s₁ (slot 0 34 2) 0 v) e p₁) p₂) p₃)
+    deleted asks (removed-one (remove-asks asks) refl on b w)
+
+pub pop-link : {z : Sizes} {s : List ℕ} {t : ℕ} → PopAsks z s t → LinkAsks z s 0 t
+pop-link a = record { sizes = a.owing.holds.sizes; long = a.owing.holds.state.long; range = omega arith; index = a.index }

@@ -52,5 +52,5 @@ queued_of z s t a =
     first_count (mem_in z s fields.deadline) t (queue_in z (mem_in z s))
     ∙ ap (λ (v : ℕ). is_set v) (sym (a.owing.holds.keeps.timed.queued t))
 
-pub is_queued_lem : {z : Sizes} {s : List ℕ} {t v : ℕ} → TimerAsks z s t → v ≡ mem_in z s fields.is_queued t → IsQueued z s t (is_set v)
-is_queued_lem {z} {s} {t} a e = record { answer = ap (λ (k : ℕ). is_set k) e ∙ sym (queued_of z s t a) }
+pub is_queued_lem : {z : Sizes} {s : List ℕ} {t : ℕ} {v : Bool} → TimerAsks z s t → v ≡ is_set (mem_in z s fields.is_queued t) → IsQueued z s t v
+is_queued_lem {z} {s} {t} a e = record { answer = e ∙ sym (queued_of z s t a) }

@@ -1,4 +1,5 @@
-// The one queue of timers, by deadline: those of the kernel, and each process's own.
+// The one queue of timers, by deadline: those of the kernel, and each process's own. That the bytes hold a state stays a clause of each function:
+// a step breaks it midway, and the invariant of a type holds at every store.
 
 ghost use Rattle.memory.specs.Link.{link};
 ghost use Rattle.state.specs.Lent.{Same};
@@ -46,10 +47,7 @@ fn pop(s: &mut State, t: Index)
     ensures same { Same s.old s.new }
     ensures deleted { Deleted s.old.sizes s.old.bytes.now s.new.bytes.now t }
 {
-    let next = s.get(field::TIMER_NEXT, t);
-    s.set(field::TIMER_HEAD, 0, next);
-    s.set(field::TIMER_NEXT, t, None);
-    s.set(field::IS_QUEUED, t, 0);
+    timers::take_out(s, None, t);
 }
 
 // Takes the head off the queue where its deadline is at or before a reading of the clock: the timer that was the head.
@@ -75,6 +73,7 @@ pub fn readd(s: &mut State, t: Index)
     if s.sizes.timers <= t {
         return;
     }
+    // 0 is no period in the field that C callers read: an `Option` made of it would be taken apart in the next line
     let period = s.get(field::PERIOD, t);
     if period == 0 {
         return;
@@ -88,5 +87,5 @@ pub fn is_queued(v: &View, t: Index) -> bool
     requires { TimerAsks v.now.sizes v.now.bytes.now t }
     ensures { IsQueued v.now.sizes v.now.bytes.now t result }
 {
-    v.get(field::IS_QUEUED, t) != 0
+    timers::is_queued(v, t)
 }

@@ -10,8 +10,7 @@ use Rattle.state.specs.declared.Sizes.{Sizes}
 use Rattle.state.specs.declared.lent.State.{State}
 use Rattle.timers.specs.Insert.{link_stores, Inserted, InsertAsks, inserted}
 use Rattle.timers.specs.Find.{Found}
-use Rattle.timers.specs.Remove.{out_stores, Removed, RemoveAsks, removed-one}
-use Rattle.timers.specs.Seek.{Sought}
+use Rattle.timers.specs.Remove.{out_stores, remove_stores}
 use Rattle.std.proofs.Common.{Fits, ◌∙◌, subst}
 use Rattle.std.specs.Int.{w64}
 
@@ -63,7 +62,7 @@ unlinked s s₁ at t k e w p =
     subst (Wrote s.sizes s.bytes.now _) (joined-out m at t)
     (wrote_join s.sizes (behind_store at (m fields.timer_next t)) (to fields.timer_next t 0 ∷ []) d (one q))
 
--- What the code of `insert` and of `remove` shows.
+-- What the code of `insert` and of `take_out` shows.
 pub inserted-into
     : {s s₁ s₂ : State} {s₃ : List ℕ} {t d at : ℕ}
     → InsertAsks s.sizes s.bytes.now t
@@ -77,14 +76,12 @@ pub inserted-into
     → Inserted s.sizes s.bytes.now s₃ t d
 inserted-into a k₁ k₂ f w p₁ p₂ b = inserted a f w (rw k₁.sizes at p₁) (rw (k₂.sizes ∙ k₁.sizes) at p₂) b
 
-pub removed-from
-    : {s s₁ : State} {s₂ : List ℕ} {t v at : ℕ}
-    → RemoveAsks s.sizes s.bytes.now t
+pub taken-out
+    : {s s₁ : State} {s₂ : List ℕ} (at t : ℕ)
     → Same s s₁
-    → v ≡ mem_in s.sizes s.bytes.now fields.is_queued t
-    → (v ≡ 0 → ⊥)
-    → Sought s.sizes (mem_in s.sizes s.bytes.now) t at
     → Wrote s.sizes s.bytes.now s₁.bytes.now (out_stores (mem_in s.sizes s.bytes.now) at t)
     → PutIn s₁.sizes s₁.bytes.now s₂ (slot 5 20 1) t 0
-    → Removed s.sizes s.bytes.now s₂ t
-removed-from a k e ne f w p = removed-one a e ne f w (rw k.sizes at p)
+    → Wrote s.sizes s.bytes.now s₂ (remove_stores (mem_in s.sizes s.bytes.now) 1 at t)
+taken-out {s} at t k w p =
+    let q = rw k.sizes at p in
+    wrote_join s.sizes (out_stores (mem_in s.sizes s.bytes.now) at t) (to fields.is_queued t 0 ∷ []) w (record { bytes = q.bytes; long = q.long })

@@ -4,7 +4,7 @@ use Rattle.std.proofs.Common.{sym, subst, ◌∙◌, arith, eqb-true, eq-eqb, ne
 use Rattle.std.proofs.lemmas.Bool.{eqb-false}
 use Rattle.machine.specs.Basics.{count, filter}
 use Rattle.layout.specs.Memory.{Memory, alter}
-use Rattle.chain.specs.Lists.{Absent}
+use Rattle.chain.specs.Lists.{Absent, count-absent}
 use Rattle.chain.specs.Ordered.{insert_by}
 use Rattle.state.specs.Fields as fields
 use Rattle.state.specs.declared.Sizes.{Sizes}
@@ -18,11 +18,6 @@ Counted flag xs = (i : ℕ) → flag i ≡ count i xs
 -- Each timer's flag says whether it is queued.
 abbrev pub Flagged : Sizes → Memory → Type 0
 Flagged z m = Counted (m fields.is_queued) (queue_in z m)
-
-absent_none : (t : ℕ) (xs : List ℕ) → Absent t xs → count t xs ≡ 0
-unfolding count
-absent_none t [] a = refl
-absent_none t (x ∷ xs) a = rw (ne_eqb t x a.0) (omega (arith, absent_none t xs a.1))
 
 count-insert : (key : ℕ → ℕ) (t i : ℕ) (xs : List ℕ) → count i (insert_by key t xs) ≡ (if eqb i t then 1 else 0) + count i xs
 unfolding count
@@ -43,7 +38,7 @@ counted-insert key flag t xs a f i = go (eqb t i) refl
     go : (b : Bool) → eqb t i ≡ b → (if b then 1 else flag i) ≡ count i (insert_by key t xs)
     go true e =
         let q : eqb i t ≡ true = eq-eqb i t (sym (eqb-true t i e)) in
-        let n : count i xs ≡ 0 = subst (λ (k : ℕ). count k xs ≡ 0) (eqb-true t i e) (absent_none t xs a) in
+        let n : count i xs ≡ 0 = subst (λ (k : ℕ). count k xs ≡ 0) (eqb-true t i e) (count-absent xs t a) in
         rw (count-insert key t i xs, q) (omega (arith, n))
     go false e =
         let q : eqb i t ≡ false = ne_eqb i t (λ d. eqb-false t i e (sym d)) in

@@ -7,7 +7,7 @@ use Rattle.machine.specs.Good.{Each}
 use Rattle.machine.specs.Machine.{Queued}
 use Rattle.machine.specs.Timers.{remove}
 use Rattle.layout.specs.Memory.{alter}
-use Rattle.chain.specs.Lists.{Below, Absent, Distinct}
+use Rattle.chain.specs.Lists.{Below, Absent, Distinct, filter-absent}
 use Rattle.chain.specs.Links.{Chain, chain-rest}
 use Rattle.chain.specs.Ordered.{Sorted}
 use Rattle.chain.specs.Removed.{out_links, chain_out}
@@ -30,21 +30,6 @@ next_out g (suc p) t = out_links g p t
 abbrev pub first_out : (ℕ → ℕ) → ℕ → ℕ → ℕ → ℕ
 first_out g h zero t = g t
 first_out g h (suc p) t = h
-
--- A number that does not stand in a list.
-pub none-absent : (t : ℕ) (xs : List ℕ) → count t xs ≡ 0 → Absent t xs
-unfolding count
-none-absent t [] e = tt
-none-absent t (x ∷ xs) e = go (eqb t x) refl (λ c. none-absent t xs c)
-  where
-    go : (b : Bool) → eqb t x ≡ b → (count t xs ≡ 0 → Absent t xs) → (t ≡ x → ⊥) × Absent t xs
-    go true q r = absurd (omega (arith, rw q at e))
-    go false q r = (eqb-false t x q, r (omega (arith, rw q at e)))
-
-pub without-absent : (t : ℕ) (xs : List ℕ) → Absent t xs → without t xs ≡ xs
-unfolding filter
-without-absent t [] a = refl
-without-absent t (x ∷ xs) a = rw (ne_eqb x t (λ e. a.0 (sym e)), without-absent t xs a.1)
 
 -- Where t stands.
 out_front : ℕ → ℕ → List ℕ → Type 0
@@ -70,7 +55,7 @@ out_split t p (x ∷ xs) d ne = go (eqb x t) refl (λ c. out_split t (suc x) xs 
           xs,
           rw e,
           ap (λ (k : ℕ). k ∷ xs) q,
-          rw e (without-absent t xs (subst (λ (k : ℕ). Absent k xs) q d.0)),
+          rw e (filter-absent t xs (subst (λ (k : ℕ). Absent k xs) q d.0)),
         )
     go false e again =
         let f : eqb t x ≡ false = ne_eqb t x (λ q. eqb-false x t e (sym q)) in

@@ -1,25 +1,27 @@
 -- What `remove` does: to the bytes, to the memory, to the queue, and to the machine's queue.
 use Rattle.std.specs.Prelude.{if◌then◌else◌, ◌≡◌, refl, Bool, true, false, List, [], ◌∷◌, ◌++◌, ℕ, zero, suc, ◌-◌, ◌≤◌, ◌<◌, eqb}
 use Rattle.std.proofs.Common.{sym, ap, subst, ◌∙◌, arith, eqb-true}
+use Rattle.std.proofs.lemmas.Bool.{both_ways}
 use Rattle.std.proofs.Math.Path.{fun_ext}
 use Rattle.machine.specs.Basics.{count}
 use Rattle.machine.specs.Timers.{remove}
 use Rattle.layout.specs.Table.{slot}
 use Rattle.layout.specs.Memory.{Memory, alter, set_field, set_same, set_twice, Ranged}
 use Rattle.layout.specs.Writes.{State, Write, to, updates, Writable, written, state-writes}
-use Rattle.chain.specs.Lists.{Absent}
+use Rattle.chain.specs.Lists.{Absent, none-absent, filter-absent}
 use Rattle.chain.specs.Links.{Chain, chain-walk}
 use Rattle.chain.specs.Ordered.{Sorted}
 use Rattle.state.specs.Fields as fields
 use Rattle.state.proofs.Ranges.{ranges}
-use Rattle.state.specs.Abs.{timer_list}
-use Rattle.state.specs.Places.{sizes_in, mem_in, PutIn, Wrote, wrote_join}
+use Rattle.state.specs.Abs.{is_set, timer_list}
+use Rattle.state.specs.Reads.{test_unset}
+use Rattle.state.specs.Places.{sizes_in, mem_in, PutIn, Wrote}
 use Rattle.state.specs.declared.Sizes.{Sizes}
 use Rattle.timers.specs.Find.{timers_in, queue_in, TimersIn}
 use Rattle.timers.specs.Entries.{entries}
 use Rattle.timers.specs.Flags.{Counted, Flagged, count_out, counted-without}
 use Rattle.timers.specs.Insert.{LinkAsks, queued_in, wrote_2}
-use Rattle.timers.specs.Out.{without, next_out, first_out, none-absent, without-absent, chain-without, before-bound, sorted-without, remove-entries}
+use Rattle.timers.specs.Out.{without, next_out, first_out, chain-without, before-bound, sorted-without, remove-entries}
 use Rattle.timers.specs.Seek.{before_in, Sought}
 
 -- The stores that take timer t out from behind the link p, and those of a removal: none where the flag is 0.
@@ -168,7 +170,7 @@ left
 left z m zero t c e =
     left_by z m (remove_mem m zero (before_in z m t) t) t refl refl
     (subst (λ (xs : List ℕ). Chain (timers_in z) (m fields.timer_next) (m fields.timer_head 0) xs)
-    (sym (without-absent t (queue_in z m) (none-absent t (queue_in z m) (sym e))))
+    (sym (filter-absent t (queue_in z m) (none-absent t (queue_in z m) (sym e))))
     c)
 left z m (suc flag) t c e =
     left_by z m (remove_mem m (suc flag) (before_in z m t) t) t refl refl
@@ -216,27 +218,27 @@ removed z s s' t a w =
       left = n;
     }
 
--- What the code of `remove` shows at each return: v is the flag of t.
-pub removed-none : {z : Sizes} {s : List ℕ} {t v : ℕ} → RemoveAsks z s t → v ≡ mem_in z s fields.is_queued t → v ≡ 0 → Removed z s s t
+-- What the code of `remove` shows at each return: v says whether t is queued.
+some-flag : (n : ℕ) → is_set n ≡ true → suc (n - 1) ≡ n
+some-flag zero e = absurd (both_ways _ refl e)
+some-flag (suc n) e = omega arith
+
+pub removed-none
+    : {z : Sizes} {s : List ℕ} {t : ℕ} {v : Bool} → RemoveAsks z s t → v ≡ is_set (mem_in z s fields.is_queued t) → v ≡ false → Removed z s s t
 removed-none {z} {s} {t} {v} a e q =
     removed z s s t a
-    (subst (λ (f : ℕ). Wrote z s s (remove_stores (mem_in z s) f (before_in z (mem_in z s) t) t)) (sym q ∙ e)
+    (subst (λ (f : ℕ). Wrote z s s (remove_stores (mem_in z s) f (before_in z (mem_in z s) t) t)) (sym (test_unset _ (sym e ∙ q)))
     (record { bytes = refl; long = a.timers.state.long }))
 
 pub removed-one
-    : {z : Sizes} {s s₁ s₂ : List ℕ} {t v at : ℕ}
+    : {z : Sizes} {s s₁ : List ℕ} {t at : ℕ} {v : Bool}
     → RemoveAsks z s t
-    → v ≡ mem_in z s fields.is_queued t
-    → (v ≡ 0 → ⊥)
+    → v ≡ is_set (mem_in z s fields.is_queued t)
+    → v ≡ true
     → Sought z (mem_in z s) t at
-    → Wrote z s s₁ (out_stores (mem_in z s) at t)
-    → PutIn z s₁ s₂ (slot 5 20 1) t 0
-    → Removed z s s₂ t
-removed-one {z} {s} {s₁} {s₂} {t} {v} {at} a e ne f w p =
-    let one : Wrote z s₁ s₂ (to fields.is_queued t 0 ∷ []) = record { bytes = p.bytes; long = p.long } in
-    let all : Wrote z s s₂ (out_stores (mem_in z s) (before_in z (mem_in z s) t) t ++ to fields.is_queued t 0 ∷ []) =
-    rw f.place at (wrote_join z (out_stores (mem_in z s) at t) (to fields.is_queued t 0 ∷ []) w one)
-    in
-    let k : suc (v - 1) ≡ mem_in z s fields.is_queued t = omega (arith, e) in
-    removed z s s₂ t a
-    (subst (λ (k : ℕ). Wrote z s s₂ (remove_stores (mem_in z s) k (before_in z (mem_in z s) t) t)) k all)
+    → Wrote z s s₁ (remove_stores (mem_in z s) 1 at t)
+    → Removed z s s₁ t
+removed-one {z} {s} {s₁} {t} {at} {v} a e q f w =
+    let all : Wrote z s s₁ (remove_stores (mem_in z s) 1 (before_in z (mem_in z s) t) t) = rw f.place at w in
+    removed z s s₁ t a
+    (subst (λ (k : ℕ). Wrote z s s₁ (remove_stores (mem_in z s) k (before_in z (mem_in z s) t) t)) (some-flag _ (sym e ∙ q)) all)

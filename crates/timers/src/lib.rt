@@ -1,18 +1,21 @@
-// The timer queue: timers by deadline, linked from the header's first link.
+// The timer queue: timers by deadline, linked from the header's first link. Links are numbers of records in the lent bytes, and no boxes: the
+// memory is fixed, and a C caller's.
 #![tactic(auto)]
 
-ghost use Rattle.std.specs.Prelude.{◌≡◌, ◌≤◌};
+ghost use Rattle.std.specs.Prelude.{◌≡◌, ◌<◌, ◌≤◌};
+ghost use Rattle.std.specs.Int.{from_bool};
 ghost use Rattle.memory.specs.Link.{link, IsLink};
-ghost use Rattle.machine.specs.Good.{SizesInRange};
+ghost use Rattle.layout.specs.Table.{slot};
 ghost use Rattle.state.specs.Fields as fields;
+ghost use Rattle.state.specs.Abs.{is_set};
 ghost use Rattle.state.specs.Lent.{Same};
-ghost use Rattle.state.specs.Places.{sizes_in, mem_in, Wrote};
+ghost use Rattle.state.specs.Places.{mem_in, PutIn, Wrote};
 ghost use Rattle.timers.specs.Find.{timers_in, TimersIn, Found, DeadlineOf, NextOf};
 ghost use Rattle.timers.specs.Read.{Origin, ReadAsks};
 ghost use Rattle.timers.specs.Behind.{link_behind, behind_store};
 ghost use Rattle.timers.specs.Insert.{link_stores, LinkAsks, InsertAsks, Inserted};
 ghost use Rattle.timers.specs.Seek.{Sought};
-ghost use Rattle.timers.specs.Remove.{out_stores, RemoveAsks, Removed};
+ghost use Rattle.timers.specs.Remove.{out_stores, remove_stores, RemoveAsks, Removed};
 
 use memory::Number;
 use state::field::Region;
@@ -22,6 +25,9 @@ use state::{Index, Link, Sizes, State, View, field};
 const STRIDE: usize = 24;
 
 const LINK: usize = 2;
+
+// A walk reads two fields at each turn, by the numbers that links are: where their records begin stands before the loop, and the four functions
+// here are a line each. `View::get` would look both regions up again at each turn, and have no record for link 0.
 
 // Where the record of link 0 would lie, were there one: that of link n lies n records further on.
 fn records(z: Sizes) -> usize
@@ -69,6 +75,9 @@ fn link_of(n: usize) -> Link
     if n == 0 { None } else { Some((n - 1) as Index) }
 }
 
+// `walk_before` and `walk_link` are two loops, since they stop by another test, at another place: before the timer that is looked at, and at the
+// one that is passed. A function of both would take the test as a closure, whose contract would be the loop's invariant again.
+
 // The number of the link behind which a timer with this deadline goes: at the end, or before the first later timer.
 // Links are numbers here, and the loop ends by `break`, since an `Option` takes a fifth more time from link to link.
 fn walk_before(v: &View, deadline: u64) -> usize
@@ -104,8 +113,7 @@ pub fn find_before(v: &View, deadline: u64) -> Link
 
 // The link behind a link, the queue's first for none.
 fn behind(s: &State, at: Link) -> Link
-    requires sizes { SizesInRange (sizes_in s.now.sizes) }
-    requires range { link at ≤ timers_in s.now.sizes }
+    requires { link at ≤ timers_in s.now.sizes }
     ensures value { link result ≡ link_behind (mem_in s.now.sizes s.now.bytes.now) (link at) }
     ensures fits { IsLink result }
 {
@@ -117,7 +125,6 @@ fn behind(s: &State, at: Link) -> Link
 
 // Stores the link behind a link, the queue's first for none.
 fn set_behind(s: &mut State, at: Link, to: Link)
-    requires sizes { SizesInRange (sizes_in s.old.sizes) }
     requires range { link at ≤ timers_in s.old.sizes }
     requires fits { IsLink to }
     ensures same { Same s.old s.new }
@@ -140,6 +147,23 @@ fn link_in(s: &mut State, at: Link, t: Index)
     set_behind(s, at, Some(t));
 }
 
+// Whether timer `t` is queued: the field is a number, 1 or 0, as C callers read it.
+pub fn is_queued(v: &View, t: Index) -> bool
+    requires { t < timers_in v.now.sizes }
+    ensures { result ≡ is_set (mem_in v.now.sizes v.now.bytes.now fields.is_queued t) }
+{
+    v.get(field::IS_QUEUED, t) != 0
+}
+
+// Timer `t` is queued or not.
+fn set_queued(s: &mut State, t: Index, queued: bool)
+    requires { t < timers_in s.old.sizes }
+    ensures same { Same s.old s.new }
+    ensures put { PutIn s.old.sizes s.old.bytes.now s.new.bytes.now (slot 5 20 1) t (from_bool queued) }
+{
+    s.set(field::IS_QUEUED, t, u8::from(queued));
+}
+
 // Queues timer `t` by its deadline, after any timer with the same.
 pub fn insert(s: &mut State, t: Index, deadline: u64)
     requires { InsertAsks s.old.sizes s.old.bytes.now t }
@@ -149,7 +173,7 @@ pub fn insert(s: &mut State, t: Index, deadline: u64)
     let at = find_before(&s.view(), deadline);
     link_in(s, at, t);
     s.set(field::DEADLINE, t, deadline);
-    s.set(field::IS_QUEUED, t, 1);
+    set_queued(s, t, true);
 }
 
 // The number of the link to the timer before `t`: at the end, or where the next is `t`. Links are numbers, as in `walk_before`.
@@ -198,17 +222,26 @@ fn link_out(s: &mut State, at: Link, t: Index)
     s.set(field::TIMER_NEXT, t, None);
 }
 
+// Takes timer `t` off the queue, from behind the link `at`, none for the front.
+pub fn take_out(s: &mut State, at: Link, t: Index)
+    requires { LinkAsks s.old.sizes s.old.bytes.now (link at) t }
+    ensures same { Same s.old s.new }
+    ensures stored { Wrote s.old.sizes s.old.bytes.now s.new.bytes.now (remove_stores (mem_in s.old.sizes s.old.bytes.now) 1 (link at) t) }
+{
+    link_out(s, at, t);
+    set_queued(s, t, false);
+}
+
 // Takes timer `t` off the queue, if it is queued.
 pub fn remove(s: &mut State, t: Index)
     requires { RemoveAsks s.old.sizes s.old.bytes.now t }
     ensures same { Same s.old s.new }
     ensures removed { Removed s.old.sizes s.old.bytes.now s.new.bytes.now t }
 {
-    let queued = s.get(field::IS_QUEUED, t);
-    if queued == 0 {
+    let v = s.view();
+    if !is_queued(&v, t) {
         return;
     }
-    let at = find_link(&s.view(), t);
-    link_out(s, at, t);
-    s.set(field::IS_QUEUED, t, 0);
+    let at = find_link(&v, t);
+    take_out(s, at, t);
 }

@@ -1,6 +1,6 @@
 -- What the parts of the check ensure, and each way out.
 use Rattle.std.specs.Prelude.{◌≡◌, refl, Bool, true, false, IsTrue, ◌↔◌, List, [], ◌∷◌, ℕ, ◌≤◌, ◌<◌, length}
-use Rattle.std.proofs.Common.{sym, ap, subst, arith, ne_eqb}
+use Rattle.std.proofs.Common.{sym, ap, subst, arith}
 use Rattle.std.proofs.lemmas.Bool.{false≢true}
 use Rattle.machine.specs.Basics.{count}
 use Rattle.machine.specs.Machine as machine
@@ -13,6 +13,7 @@ use Rattle.state.specs.Places.{sizes_in, total_in}
 use Rattle.state.specs.WellFormed.{WellFormed, Used, Index, mark_value, age_list}
 use Rattle.state.specs.declared.Sizes.{Sizes}
 use Rattle.rules.specs.Facts.{Facts, IdleOk}
+use Rattle.rules.specs.Tests.{set_test}
 use Rattle.rules.specs.Code.{mem_in, Decides}
 use Rattle.exact.specs.Exact.{Checked}
 use Rattle.scan.specs.All.{ProcessesOk}
@@ -81,12 +82,9 @@ facts-all p q k i x =
     }
 
 -- Everyone who lives is met by age.
-used-set : (v : ℕ) → 0 < v → is_set v ≡ true
-used-set v h = rw (ne_eqb v 0 (λ e. omega arith))
-
 each_set : (m : Memory) (xs : List ℕ) → Each (Used m) xs → Each (λ i. is_set (m fields.pid i) ≡ true) xs
 each_set m [] a = tt
-each_set m (x ∷ xs) a = (used-set (m fields.pid x) a.0, each_set m xs a.1)
+each_set m (x ∷ xs) a = (set_test (m fields.pid x) a.0, each_set m xs a.1)
 
 pub aged : {z : machine.Sizes} {m : Memory} → QueueFacts z m → Aged z m
 aged {z} {m} q =
@@ -97,7 +95,7 @@ aged {z} {m} q =
           let e : count i (age_list z m) ≡ bit (is_set (m fields.pid i)) =
           all_met z.processes (age_list z m) (λ j. is_set (m fields.pid j)) c.distinct c.below (each_set m (age_list z m) q.ages.used) q.all_living i l
           in
-          rw (e, used-set (m fields.pid i) u) (omega arith);
+          rw (e, set_test (m fields.pid i) u) (omega arith);
     }
 
 -- A state is at least as long as its header, and as the sizes that it names.

@@ -12,7 +12,10 @@ use memory::Number;
 use rules::Checked;
 use state::{Index, Sizes, View, field};
 
-// The sizes that the header names. They are read from the slice itself, since a `View` has its sizes already.
+// How many bytes the header takes.
+const HEADER_BYTES: usize = 80;
+
+// The sizes that the header names, each from its own place. They are read from the slice itself, since a `View` has its sizes already.
 pub fn load_sizes(s: &[u8]) -> Sizes
     requires { 80 ≤ length s.now }
     ensures { SizesRead s.now result }
@@ -31,10 +34,10 @@ pub fn load_sizes(s: &[u8]) -> Sizes
 fn fits(n: Index, most: Index) -> bool
     ensures { IsTrue result ↔ (1 ≤ n) × (n ≤ most) }
 {
-    1 <= n && n <= most
+    (1..=most).contains(&n)
 }
 
-// Are the sizes in range?
+// Are the sizes in range? `make` asks the same of numbers of 64 bits that C hands it, and makes sizes of them: neither test serves the other.
 fn sizes_ok(z: Sizes) -> bool
     ensures { IsTrue result ↔ SizesInRange (sizes_in z) }
 {
@@ -59,33 +62,26 @@ fn facts_ok(v: &Checked) -> bool
         && (walks::queues_ok(v) && (kin::kin_ok(v) && (idle::idle_ok(v) && index::index_ok(v))))
 }
 
-// Is what is long enough for its sizes a state of them?
+// Is what is long enough for its sizes a state of them? That they are in range stays a clause: a type for it would be a third one beside `View` and
+// `Checked`.
 fn state_ok(v: &View) -> bool
     requires { SizesInRange (sizes_in v.now.sizes) }
     ensures { IsTrue result ↔ CheckedIn v.now.sizes v.now.bytes.now }
 {
-    if !marks_ok(v) {
-        return false;
-    }
-    match bounds::checked(v) {
-        Some(c) => facts_ok(&c),
-        None => false,
-    }
+    marks_ok(v)
+        && match bounds::checked(v) {
+            Some(c) => facts_ok(&c),
+            None => false,
+        }
 }
 
 // Is `s` a well-formed state? Any bytes, any length; nothing is written.
 pub fn check(s: &[u8]) -> bool
     ensures { Decides result (WellFormed s.now) }
 {
-    if s.len() < 80 {
+    if s.len() < HEADER_BYTES {
         return false;
     }
     let z = load_sizes(s);
-    if !sizes_ok(z) {
-        return false;
-    }
-    if s.len() < z.total() {
-        return false;
-    }
-    state_ok(&View { bytes: s, sizes: z })
+    sizes_ok(z) && (z.total() <= s.len() && state_ok(&View { bytes: s, sizes: z }))
 }

@@ -1,4 +1,4 @@
--- What `add_exit` does to the memory and the machine: the highest free cell takes the message, and is the newest exit.
+-- What `exits::add` does to the memory and the machine: the highest free cell takes the message, and is the newest exit.
 use Rattle.std.specs.Prelude.{◌≡◌, refl, Bool, true, false, List, ◌∷◌, ◌++◌, map, ◌⊎◌, ℕ, suc, ◌+◌, ◌*◌, ◌<◌, ltb, length}
 use Rattle.std.proofs.Common.{sym, ap, ◌∙◌, inl, inr, ⊎_elim, arith, ltb-true, ltb-false}
 use Rattle.machine.specs.Machine as machine

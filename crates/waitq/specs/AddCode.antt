@@ -1,5 +1,5 @@
--- What the code of `add_exit` shows.
-use Rattle.std.specs.Prelude.{◌≡◌, refl, List, ◌∷◌, ◌++◌, ℕ, suc, ◌-◌, ◌*◌, ◌≤◌, ◌<◌, length}
+-- What the code of `exits::add` shows.
+use Rattle.std.specs.Prelude.{◌≡◌, refl, List, ◌∷◌, ◌++◌, ℕ, suc, ◌*◌, ◌≤◌, ◌<◌, length}
 use Rattle.std.proofs.Common.{sym, ap, ◌∙◌, arith}
 use Rattle.std.proofs.Math.Path.{subst}
 use Rattle.std.proofs.Math.Option.{Option, get_or}
@@ -41,28 +41,22 @@ module _ {z : Sizes} {s : List ℕ} {i : ℕ} (a : AddAsks z s i) where
   add-link {link} f =
       some-link link a.cell (f.machine a.holds.keeps.cells ∙ a.free)
 
-  pub add-some : {link : ℕ} → CellFound z s link → 1 ≤ link
-  add-some f = omega (arith, add-link f)
+  cell-there : {c : ℕ} → CellFound z s (suc c) → (c < z.cells) × (mem_in z s fields.owner c ≡ 0)
+  cell-there {c} f = f.free c refl
 
-  add-here : {link c : ℕ} → CellFound z s link → c ≡ link - 1 → link ≡ suc c
-  add-here f e = add-link f ∙ omega (arith, add-link f, e)
+  pub add_use : {c : ℕ} → CellFound z s (suc c) → UseCellAsks z s c
+  add_use f = use_cell-asks add_words (cell-there f).0 (cell-there f).1
 
-  cell-there : {link c : ℕ} → CellFound z s link → c ≡ link - 1 → (c < z.cells) × (mem_in z s fields.owner c ≡ 0)
-  cell-there {link} {c} f e = f.free c (add-here f e)
-
-  pub add_use : {link c : ℕ} → CellFound z s link → c ≡ link - 1 → UseCellAsks z s c
-  add_use f e = use_cell-asks add_words (cell-there f e).0 (cell-there f e).1
-
-  pub add-write : {link c : ℕ} {s₁ : List ℕ} → CellFound z s link → c ≡ link - 1 → UseCellDone z s s₁ c → WriteAsks z s₁ c
-  add-write f e u = record { sizes = a.holds.sizes; state = u.state; index = (cell-there f e).0 }
+  pub add-write : {c : ℕ} {s₁ : List ℕ} → CellFound z s (suc c) → UseCellDone z s s₁ c → WriteAsks z s₁ c
+  add-write f u = record { sizes = a.holds.sizes; state = u.state; index = (cell-there f).0 }
 
   -- The memory before the exit is pushed.
-  module _ {link c : ℕ} {s₁ s₂ : List ℕ} {name : List ℕ} {pid : ℕ} {status : List ℕ} {n : ℕ} (f : CellFound z s link) (e : c ≡ link - 1) (u : UseCellDone z s s₁ c) (w : MessageIn z s₁ s₂ c name pid status n) where
+  module _ {c : ℕ} {s₁ s₂ : List ℕ} {name : List ℕ} {pid : ℕ} {status : List ℕ} {n : ℕ} (f : CellFound z s (suc c)) (u : UseCellDone z s s₁ c) (w : MessageIn z s₁ s₂ c name pid status n) where
     before-push : mem_in z s₂ ≡ message_mem (use_cell_mem z.cells (mem_in z s) c) c (message name pid status)
     before-push = w.memory ∙ ap (λ (k : Memory). message_mem k c (message name pid status)) u.memory
 
     pushable : (k : ℕ) → k ≤ 127 → Pushable (sizes_in z) (mem_in z s) i c k
-    pushable k l = record { used = a.used; index = (cell-there f e).0; free = (cell-there f e).1; room = a.room; short = l }
+    pushable k l = record { used = a.used; index = (cell-there f).0; free = (cell-there f).1; room = a.room; short = l }
 
     pub add_push : {l : ℕ} → l ≤ 127 → PushAsks z s₂ i c l
     add_push {l} short =
@@ -106,7 +100,7 @@ module _ {z : Sizes} {s : List ℕ} {i : ℕ} (a : AddAsks z s i) where
           let q : mem_in z s₃ ≡ push_mem (message_mem (mem_in z s₁) c (message name pid status)) i c pid n =
           d.stored.memory ∙ ap (λ (k : Memory). push_mem k i c pid n) w.memory
           in
-          used-cell a.holds.sizes a.holds.state a.holds.keeps.index (mem_in z s₃) u (cell-there f e).1
+          used-cell a.holds.sizes a.holds.state a.holds.keeps.index (mem_in z s₃) u (cell-there f).1
           (subst (λ (k : Memory). ButOwner (mem_in z s₁) k c) (sym q) (add_but (mem_in z s₁) i c pid (message name pid status) n))
           (subst (λ (k : Memory). 0 < k fields.owner c) (sym q) (add-owned (mem_in z s₁) i c pid (message name pid status) n))
 
@@ -160,7 +154,7 @@ module _ {z : Sizes} {s : List ℕ} {i : ℕ} (a : AddAsks z s i) where
           }
 
       the_cell : c ≡ cell_for z s
-      the_cell = omega (arith, add-link f, e) ∙ sym (ap (λ (o : Option ℕ). get_or o 0) a.free)
+      the_cell = omega (arith, add-link f) ∙ sym (ap (λ (o : Option ℕ). get_or o 0) a.free)
 
       pub added : AddDone z s s₃ i pid name status
       added =

@@ -1,4 +1,4 @@
--- What `add_exit` asks and ensures.
+-- What `exits::add` asks and ensures.
 use Rattle.std.specs.Prelude.{◌≡◌, List, ◌∷◌, ℕ, ◌<◌}
 use Rattle.std.proofs.Math.Option.{some, get_or}
 use Rattle.machine.specs.Machine.{process}

@@ -1,6 +1,7 @@
--- What `free_exits` does: the exits are taken one after another.
-use Rattle.std.specs.Prelude.{◌≡◌, refl, List, [], ◌∷◌, ◌++◌, ℕ, zero, suc, ◌-◌, ◌≤◌, ◌<◌, length}
+-- What `exits::take_all` does: the exits are taken one after another.
+use Rattle.std.specs.Prelude.{◌≡◌, refl, List, [], ◌++◌, ℕ, zero, suc, ◌-◌, ◌≤◌, ◌<◌, length}
 use Rattle.std.proofs.Common.{sym, ap, ap₂, subst, ◌∙◌, arith}
+use Rattle.std.proofs.lemmas.List.{nil_from_length}
 use Rattle.machine.specs.Machine.{process}
 use Rattle.machine.specs.Update.{with_process, with_exits}
 use Rattle.layout.specs.Table.{slot}
@@ -157,16 +158,12 @@ clear_step {z} {s₀} {s} {s'} {i} {k} {k'} {r} c l t e =
       fewer = fewer_join c.fewer t.fewer;
     }
 
-none_left : (xs : List ℕ) → length xs ≡ 0 → xs ≡ []
-none_left [] e = refl
-none_left (x ∷ xs) e = absurd (omega (arith, e))
-
 pub clear-end : {z : Sizes} {s₀ s : List ℕ} {i k : ℕ} → Clearing z s₀ s i k → k ≤ 0 → ClearDone z s₀ s i
 clear-end {z} {s₀} {s} {i} {k} c l =
     let m : Memory = mem_in z s₀ in
     let q : m fields.nexits i - k ≡ m fields.nexits i = omega arith in
     let none : exit_list (mem_in z s) i ≡ [] =
-    none_left (exit_list (mem_in z s) i) (omega (arith, c.asks.holds.keeps.cells.counted i c.asks.used, c.left, l))
+    nil_from_length (exit_list (mem_in z s) i) (omega (arith, c.asks.holds.keeps.cells.counted i c.asks.used, c.left, l))
     in
     let d : Changed (sizes_in z) m (mem_in z s) i [] = subst (λ (ys : List ℕ). Changed (sizes_in z) m (mem_in z s) i ys) none c.changed in
     record {

@@ -1,4 +1,4 @@
--- What `pop_exit` does to the memory: to the record's exits, and to the machine.
+-- What `exits::pop` does to the memory: to the record's exits, and to the machine.
 use Rattle.std.specs.Prelude.{if◌then◌else◌, ◌≡◌, refl, Bool, true, false, eqb, length, List, [], ◌∷◌, ◌++◌, map, ℕ, suc, ◌+◌, ◌-◌, ◌≤◌}
 use Rattle.std.proofs.Common.{sym, ◌∙◌, arith, ne_eqb}
 use Rattle.std.proofs.Math.Path.{ap, subst}

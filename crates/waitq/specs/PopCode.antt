@@ -1,4 +1,4 @@
--- What `pop_exit` asks and ensures, and what its code shows.
+-- What `exits::pop` asks and ensures, and what its code shows.
 use Rattle.std.specs.Prelude.{◌≡◌, refl, List, [], ◌∷◌, ℕ, suc, ◌-◌, ◌≤◌, ◌<◌, length}
 use Rattle.std.proofs.Common.{sym, ap, ◌∙◌, arith}
 use Rattle.machine.specs.Machine.{process}

@@ -1,4 +1,4 @@
--- What `push_exit` does to the memory: to the record's exits, and to the machine.
+-- What `exits::push` does to the memory: to the record's exits, and to the machine.
 use Rattle.std.specs.Prelude.{if◌then◌else◌, ◌≡◌, Bool, List, [], ◌∷◌, ◌++◌, map, ℕ, suc, ◌+◌, ◌*◌, ◌≤◌, ◌<◌}
 use Rattle.std.proofs.Math.Path.{refl, sym, ap}
 use Rattle.std.proofs.Common.{◌∙◌, arith, eqb-true, eq-eqb}

@@ -1,4 +1,4 @@
--- What `push_exit` asks and ensures, and what its code shows.
+-- What `exits::push` asks and ensures, and what its code shows.
 use Rattle.std.specs.Prelude.{◌≡◌, List, ◌∷◌, ℕ, suc, ◌+◌, ◌≤◌, ◌<◌}
 use Rattle.std.proofs.Common.{ap, ◌∙◌, arith, add-one}
 use Rattle.machine.specs.Machine.{process}

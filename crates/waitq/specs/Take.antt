@@ -1,4 +1,4 @@
--- What `take_exit` asks and ensures: the newest exit goes, its cell is marked as free, and every group of the state is kept.
+-- What `exits::take` asks and ensures: the newest exit goes, its cell is marked as free, and every group of the state is kept.
 use Rattle.std.specs.Prelude.{◌≡◌, List, ◌∷◌, ◌++◌, ℕ, ◌-◌, ◌≤◌, ◌<◌}
 use Rattle.machine.specs.Machine.{process}
 use Rattle.machine.specs.Update.{with_process}

@@ -1,4 +1,4 @@
--- What the code of `take_exit` shows.
+-- What the code of `exits::take` shows.
 use Rattle.std.specs.Prelude.{◌≡◌, refl, List, ◌∷◌, ℕ, ◌-◌, ◌<◌}
 use Rattle.std.proofs.Common.{sym, ap, ◌∙◌, arith}
 use Rattle.std.proofs.Math.Path.{subst}
@@ -30,7 +30,7 @@ use Rattle.waitq.specs.Marks.{dropped-same, dropped-cells, dropped-changed, chan
 use Rattle.waitq.specs.Take.{take_stores, take_mem, TakeAsks, TakeDone}
 use Rattle.waitq.specs.InUse.{take-in_use, take-fewer, take-ceased}
 
--- `pop_exit` changes no word, and of the owners only the cell's.
+-- `exits::pop` changes no word, and of the owners only the cell's.
 pop_but : (m : Memory) (i c : ℕ) → ButOwner m (pop_mem m i c) c
 unfolding pop_stores unlink_stores head_stores
 pop_but m i c =
@@ -45,7 +45,7 @@ pop-freed : (m : Memory) (i c : ℕ) → pop_mem m i c fields.owner c ≡ 0
 unfolding pop_stores unlink_stores head_stores
 pop-freed m i c = alter-same (m fields.owner) c 0
 
--- What `pop_exit` ensures, of a memory k that is the one before it; and so of the memory before the mark, which does not matter to the exits.
+-- What `exits::pop` ensures, of a memory k that is the one before it; and so of the memory before the mark, which does not matter to the exits.
 record From (z : Sizes) (k : Memory) (s₁ s₂ : List ℕ) (i r : ℕ) : Type 0 where
   link : r ≡ k fields.exits i
   list : exit_list k i ≡ (r - 1) ∷ exit_list (mem_in z s₂) i

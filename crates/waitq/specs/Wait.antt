@@ -34,19 +34,15 @@ wait_number WaitState.Sleep = none
 refused_by : Bool → Bool → Option ℕ
 refused_by a b = elim a [ true ↦ some 14 | false ↦ elim b [ true ↦ some 15 | false ↦ none ] ]
 
-running-some : (test : ℕ → Bool) (m : Machine) (i : ℕ) → m.up ≡ some i → running test m ≡ test i
-unfolding running
-running-some test m i u = rw u
-
 pub wait-refused
     : (m : Machine) (k : Step) (i : ℕ)
     → m.up ≡ some i
     → k.body ≡ wait
     → first_of (14 ∷ 15 ∷ []) m k ≡ wait_number (wait_state_of (process m i))
-unfolding open_table open_step wait_state_of is_waiting refused_by
+unfolding open_table open_step wait_state_of is_waiting refused_by running
 wait-refused m k i u b =
     rows
-    ∙ ap₂ refused_by (running-some held m i u) (running-some alone m i u)
+    ∙ ap₂ refused_by (rw u) (rw u)
     ∙ cases (is_waiting (process m i).resume) (eqb (process m i).nchild 0) (is_empty (process m i).exits)
   where
     held : ℕ → Bool

@@ -1,4 +1,4 @@
--- What `wait_state` asks and ensures, and what its code shows.
+-- What `WaitState::of` asks and ensures, and what its code shows.
 use Rattle.std.specs.Prelude.{if◌then◌else◌, ◌≡◌, refl, Bool, true, false, List, [], ◌∷◌, map, ℕ, ◌≤◌, ◌<◌, eqb, length}
 use Rattle.std.proofs.Common.{sym, ◌∙◌, arith, eq-eqb, ne_eqb}
 use Rattle.machine.specs.Basics.{is_empty}

@@ -1,6 +1,6 @@
--- What `write_exit_message` asks and ensures, and what its code shows.
+-- What `exits::write_message` asks and ensures, and what its code shows.
 use Rattle.std.specs.Prelude.{◌≡◌, refl, List, [], ◌∷◌, ◌++◌, ℕ, suc, ◌+◌, ◌-◌, ◌*◌, ◌≤◌, ◌<◌, length, get_or, set, take, drop}
-use Rattle.std.proofs.Common.{sym, ap, subst, ◌∙◌, append_assoc, arith, lit<, take-append-drop, length-drop, drop-drop, length-take-le, get_or-append-add}
+use Rattle.std.proofs.Common.{sym, ap, subst, ◌∙◌, append_assoc, arith, lit<, take-append-drop, length-drop, drop-drop, length-take-le}
 use Rattle.std.proofs.lemmas.List.Edits.{sets, sets-eq}
 use Rattle.std.proofs.lemmas.List.{drop-append-le}
 use Rattle.memory.specs.Le.{put, put_one}
@@ -9,6 +9,7 @@ use Rattle.machine.specs.Good.{SizesInRange, Each}
 use Rattle.layout.specs.Table.{slot}
 use Rattle.layout.specs.Memory.{write, Reach, reach-end}
 use Rattle.layout.specs.Writes.{State, writes, Writable, written, state-writes}
+use Rattle.chain.specs.Lists.{part_below}
 use Rattle.state.specs.Fields as fields
 use Rattle.state.proofs.Ranges.{ranges}
 use Rattle.state.specs.Places.{sizes_in, start_in, mem_in, Wrote}
@@ -83,14 +84,6 @@ over_part s at bs l h =
     ∙ ap (λ (x : List ℕ). take at s ++ (bs ++ x)) (sym (drop-drop n at s) ∙ sym e)
     ∙ ap (λ (x : List ℕ). take at s ++ x) (sym (append_assoc bs (drop n (take 127 t)) (drop 127 t))))
 
--- Its bytes are bytes of the whole.
-each-byte : (p bs q : List ℕ) → ((k : ℕ) → get_or (p ++ (bs ++ q)) k 0 < 256) → Each (λ b. b < 256) bs
-each-byte p [] q h = tt
-each-byte p (b ∷ bs) q h = (
-  subst (λ (x : ℕ). x < 256) (get_or-append-add p (b ∷ (bs ++ q)) 0 0) (h (length p + 0)),
-  each-byte (p ++ b ∷ []) bs q (λ k. subst (λ (l : List ℕ). get_or l k 0 < 256) (sym (append_assoc p (b ∷ []) (bs ++ q))) (h k)),
-)
-
 -- What the code shows at its return.
 pub message_in_lem
     : {z : Sizes} {s s' part : List ℕ} {c at : ℕ} {name : List ℕ} {pid : ℕ} {status : List ℕ} {r : ℕ}
@@ -108,7 +101,7 @@ message_in_lem {z} {s} {s'} {part} {c} {at} {name} {pid} {status} {r} a e w d f 
     let d₀ : s' ≡ take at s ++ (part ++ drop 127 (drop at s)) = rw n at d in
     let d₁ : s' ≡ take at s ++ ((bs ++ drop (length bs) (take 127 (drop at s))) ++ drop 127 (drop at s)) = rw p at d₀ in
     let g : Each (λ b. b < 256) bs =
-    each-byte (take at s) bs (drop (length bs) (take 127 (drop at s)) ++ drop 127 (drop at s))
+    part_below 256 (take at s) bs (drop (length bs) (take 127 (drop at s)) ++ drop 127 (drop at s))
     (λ k. subst (λ (x : List ℕ). get_or x k 0 < 256) (d₁ ∙ ap (λ (x : List ℕ). take at s ++ x) (append_assoc bs (drop (length bs) (take 127 (drop at s))) (drop 127 (drop at s)))) (f k))
     in
     let b : s' ≡ sets s (start_in z 7 + 127 * c) bs =

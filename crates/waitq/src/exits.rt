@@ -1,10 +1,11 @@
-// The exits of a record: put in front, taken off the front, freed, and written.
+// The exits of a record: put in front, taken off the front, freed, and written. A message lies in its cell and a name in 28 bytes filled up with zeros,
+// as the memory of a state is fixed and a C caller's; so a length stands beside, and no function here gives a text away.
 
 ghost use Rattle.std.specs.Prelude.{◌<◌, suc};
 ghost use Rattle.memory.specs.Link.{link, IsLink};
 ghost use Rattle.state.specs.Lent.{Same};
 ghost use Rattle.state.specs.Places.{Wrote};
-ghost use Rattle.waitq.specs.Push.{head_stores, Filled};
+ghost use Rattle.waitq.specs.Push.{cell_stores, head_stores};
 ghost use Rattle.waitq.specs.PushCode.{PushAsks, PushDone};
 ghost use Rattle.waitq.specs.WriteCode.{WriteAsks, MessageIn};
 ghost use Rattle.waitq.specs.Take.{TakeAsks, TakeDone};
@@ -14,18 +15,30 @@ ghost use Rattle.waitq.specs.PopCode.{Unlinked, PopAsks, PopDone};
 
 use state::{Index, Link, State, field};
 
-// Stores what cell `c` holds but the bytes of its message.
-fn fill_cell(s: &mut State, c: Index, pid: u64, next: Link, owner: Link, length: u8)
-    requires there { c < s.old.sizes.cells }
-    requires next { IsLink next }
-    requires owner { IsLink owner }
-    ensures same { Same s.old s.new }
-    ensures filled { Filled s.old.sizes s.old.bytes.now s.new.bytes.now c pid (link next) (link owner) length }
-{
-    s.set(field::EXIT_PID, c, pid);
-    s.set(field::CELL_NEXT, c, next);
-    s.set(field::OWNER, c, owner);
-    s.set(field::MESSAGE_LENGTH, c, length);
+// What a cell holds but the bytes of its message: the pid of who exited, the next older exit, in whose wait queue it is, and how many bytes the
+// message has, up to 127.
+#[derive(Clone, Copy, Debug, PartialEq, Eq)]
+struct Cell {
+    pid: u64,
+    next: Link,
+    owner: Link,
+    length: u8,
+}
+
+impl Cell {
+    // Stores it as that of cell `c`.
+    fn store(self, s: &mut State, c: Index)
+        requires there { c < s.old.sizes.cells }
+        requires next { IsLink self.next }
+        requires owner { IsLink self.owner }
+        ensures same { Same s.old s.new }
+        ensures stored { Wrote s.old.sizes s.old.bytes.now s.new.bytes.now (cell_stores c self.pid (link self.next) (link self.owner) self.length) }
+    {
+        s.set(field::EXIT_PID, c, self.pid);
+        s.set(field::CELL_NEXT, c, self.next);
+        s.set(field::OWNER, c, self.owner);
+        s.set(field::MESSAGE_LENGTH, c, self.length);
+    }
 }
 
 // Stores the first exit of record `i`, and how many there are.
@@ -45,9 +58,15 @@ pub fn push(s: &mut State, i: Index, c: Index, pid: u64, length: u8)
     ensures same { Same s.old s.new }
     ensures pushed { PushDone s.old.sizes s.old.bytes.now s.new.bytes.now i c pid length }
 {
-    let first = s.get(field::EXITS, i);
+    let next = s.get(field::EXITS, i);
     let nexits = s.get(field::NEXITS, i);
-    fill_cell(s, c, pid, first, Some(i), length);
+    let cell = Cell {
+        pid,
+        next,
+        owner: Some(i),
+        length,
+    };
+    cell.store(s, c);
     set_head(s, i, Some(c), nexits + 1);
 }
 
@@ -84,22 +103,24 @@ pub fn take(s: &mut State, i: Index) -> Link
     ensures taken { TakeDone s.old.sizes s.old.bytes.now s.new.bytes.now i (link result) }
 {
     let c = s.get(field::EXITS, i)?;
-    free::drop_cell(s.bytes, s.sizes, c);
+    free::drop_cell(s, c);
     pop(s, i)
 }
 
-// Takes every exit off record `i`: its cells are free. The count is of those that are left, as the record has it.
+// Takes every exit off record `i`: its cells are free.
 pub fn take_all(s: &mut State, i: Index)
     requires { ClearAsks s.old.sizes s.old.bytes.now i }
     ensures same { Same s.old s.new }
     ensures cleared { ClearDone s.old.sizes s.old.bytes.now s.new.bytes.now i }
 {
-    let mut n = s.get(field::NEXITS, i);
-    while 0 < n {
+    let n = s.get(field::NEXITS, i);
+    for taken in 0..n {
         take(s, i);
-        n -= 1;
     }
 }
+
+// `name`, `pid` and `status` stay three parameters: `add` hands them on once, and a struct of them, with a loan in it, would be taken apart in the
+// next function.
 
 // Writes the message of an exit straight into cell `c`: its length.
 pub fn write_message(s: &mut State, c: Index, name: [u8; 28], pid: u64, status: &[u8]) -> u8
@@ -118,9 +139,10 @@ pub fn add(s: &mut State, i: Index, pid: u64, name: [u8; 28], status: &[u8])
     ensures same { Same s.old s.new }
     ensures added { AddDone s.old.sizes s.old.bytes.now s.new.bytes.now i pid name status.now }
 {
-    let link = free::find_cell(s.view().bytes, s.sizes);
-    let c = link - 1;
-    free::use_cell(s.bytes, s.sizes, c);
+    let Some(c) = free::find_cell(&s.view()) else {
+        unreachable!()
+    };
+    free::use_cell(s, c);
     let length = write_message(s, c, name, pid, status);
     push(s, i, c, pid, length);
 }

@@ -1,5 +1,5 @@
 -- What the loop over all records shows of their exits.
-use Rattle.std.specs.Prelude.{if◌then◌else◌, ◌≡◌, refl, Bool, true, false, Option, Some, None, List, ℕ, ◌+◌, ◌*◌, ◌≤◌, ◌<◌}
+use Rattle.std.specs.Prelude.{if◌then◌else◌, ◌≡◌, refl, Option, Some, None, List, ℕ, ◌+◌, ◌*◌, ◌≤◌, ◌<◌}
 use Rattle.std.proofs.Common.{sym, subst, ◌∙◌, add-one, arith, ne_eqb, below_more}
 use Rattle.layout.specs.Memory.{Memory}
 use Rattle.state.specs.Fields as fields
@@ -19,17 +19,20 @@ exit_count m i = if is_set (m fields.pid i) then m fields.nexits i else 0
 pub record ExitsFine (z : Sizes) (s : List ℕ) (i : ℕ) : Type 0 where
   pub fine : Used (mem_in z s) i → ExitsOk (sizes_in z) (mem_in z s) i
 
+-- What is answered of one record: how many exits it has, no more than 128, where they are in order.
 abbrev pub ExitsHere : Sizes → List ℕ → ℕ → Option ℕ → Type 0
-ExitsHere z s i r = Counts (ExitsFine z s i) (exit_count (mem_in z s) i) r
+ExitsHere z s i None = ExitsFine z s i → ⊥
+ExitsHere z s i (Some k) = ExitsFine z s i × (k ≡ exit_count (mem_in z s) i) × (k ≤ 128)
 
 pub exits-free : {z : Sizes} {s : List ℕ} {i p : ℕ} → p ≡ mem_in z s fields.pid i → p ≡ 0 → ExitsHere z s i (Some 0)
 exits-free {z} {s} {i} {p} e f =
     let q : mem_in z s fields.pid i ≡ 0 = sym e ∙ f in
-    (record { fine = λ u. absurd (omega (arith, q, u)) }, rw q refl)
+    (record { fine = λ u. absurd (omega (arith, q, u)) }, rw q refl, omega arith)
 
 module _ {z : Sizes} {s : List ℕ} {i p : ℕ} (e : p ≡ mem_in z s fields.pid i) (ne : p ≡ 0 → ⊥) where
-  pub exits-yes : {n : ℕ} → ExitsOk (sizes_in z) (mem_in z s) i → n ≡ mem_in z s fields.nexits i → ExitsHere z s i (Some n)
-  exits-yes {n} d f = (record { fine = λ u. d }, rw (ne_eqb (mem_in z s fields.pid i) 0 (λ h. ne (e ∙ h))) f)
+  pub exits-yes : {n : ℕ} → ∥ Whole z s ∥₁ → ExitsOk (sizes_in z) (mem_in z s) i → n ≡ mem_in z s fields.nexits i → ExitsHere z s i (Some n)
+  exits-yes {n} w d f =
+      (record { fine = λ u. d }, rw (ne_eqb (mem_in z s fields.pid i) 0 (λ h. ne (e ∙ h))) f, omega (arith, f, field-most w fields.nexits i))
 
   pub exits-no : (ExitsOk (sizes_in z) (mem_in z s) i → ⊥) → ExitsHere z s i None
   exits-no d f = d (f.fine (omega (arith, e, ne)))
@@ -51,23 +54,15 @@ pub exits-start : {z : Sizes} {s : List ℕ} → ExitsSumming z s 0 0
 unfolding sum_below
 exits-start = record { within = omega arith; all = λ k l. absurd (omega arith); sum = refl; few = omega arith }
 
--- No record has more than 128.
-pub exits-few : {z : Sizes} {s : List ℕ} {d : ℕ} (i : ℕ) → ∥ Whole z s ∥₁ → d ≡ exit_count (mem_in z s) i → d ≤ 128
-exits-few {z} {s} {d} i w e = rw e (go (is_set (mem_in z s fields.pid i)))
-  where
-    go : (t : Bool) → (if t then mem_in z s fields.nexits i else 0) ≤ 128
-    go true = field-most w fields.nexits i
-    go false = omega arith
-
 module _ {z : Sizes} {s : List ℕ} {i n : ℕ} (t : ExitsSumming z s i n) where
-  pub exits-more : {d : ℕ} → ∥ Whole z s ∥₁ → i < z.processes → ExitsHere z s i (Some d) → ExitsSumming z s (i + 1) (n + d)
+  pub exits-more : {d : ℕ} → i < z.processes → ExitsHere z s i (Some d) → ExitsSumming z s (i + 1) (n + d)
   unfolding sum_below
-  exits-more {d} w l h =
+  exits-more {d} l h =
       record {
         within = omega arith;
         all = below_more (ExitsFine z s) i t.all h.0;
         sum = rw (add-one, h.1, t.sum) refl;
-        few = omega (arith, t.few, exits-few i w h.1);
+        few = omega (arith, t.few, h.2);
       }
 
   pub exits-bad : i < z.processes → ExitsHere z s i None → AllExits z s None

@@ -1,5 +1,5 @@
 -- What is counted: a field of the first records, and what a function answers that decides and counts.
-use Rattle.std.specs.Prelude.{if◌then◌else◌, ◌≡◌, refl, Bool, true, false, not, List, Option, Some, None, IsTrue, ◌↔◌, ℕ, zero, suc, ◌+◌, ◌≤◌, eqb}
+use Rattle.std.specs.Prelude.{◌≡◌, refl, Bool, true, false, not, List, Option, Some, None, IsTrue, ◌↔◌, ℕ, zero, suc, ◌+◌, ◌≤◌, eqb}
 use Rattle.std.specs.Option.{option_eq}
 use Rattle.std.proofs.Common.{sym, ap, ◌∙◌, add-one, arith, eq-eqb, ne_eqb, eqb-true}
 use Rattle.std.proofs.lemmas.Bool.{false≢true, not-true, not-false}
@@ -12,6 +12,7 @@ use Rattle.state.specs.Fields.{layout1, counts}
 use Rattle.state.specs.Places.{sizes_in}
 use Rattle.state.specs.declared.Sizes.{Sizes}
 use Rattle.rules.specs.Code.{mem_in, Whole}
+use Rattle.rules.specs.Counting.{count_same}
 use Rattle.rules.specs.Facts.{count_below}
 use Rattle.rules.specs.Read.{field-most}
 
@@ -33,29 +34,14 @@ pub count-no : {i n v x : ℕ} (f : ℕ → ℕ) → n ≡ count_below i (λ k. 
 unfolding count_below
 count-no {i} f e d h q = let r : i + 1 ≡ suc i = add-one i in rw (r, eq-eqb (f i) 0 (sym h ∙ sym d ∙ q)) (omega (arith, e))
 
-pub count-few : (n : ℕ) (test : ℕ → Bool) → count_below n test ≤ n
-unfolding count_below
-count-few zero test = omega arith
-count-few (suc n) test = go (test n) (count-few n test)
-  where
-    go : (t : Bool) → count_below n test ≤ n → count_below n test + (if t then 1 else 0) ≤ suc n
-    go true h = omega arith
-    go false h = omega arith
-
--- Two tests that agree count the same.
-count-same : (n : ℕ) (f g : ℕ → Bool) → ((k : ℕ) → f k ≡ g k) → count_below n f ≡ count_below n g
-unfolding count_below
-count-same zero f g h = refl
-count-same (suc n) f g h = rw (h n, count-same n f g h)
-
 -- Whether a timer is queued is 0 or 1.
 pub queued-count
     : {z : Sizes} {s : List ℕ} (n : ℕ)
     → ∥ Whole z s ∥₁
     → count_below n (λ t. is_set (mem_in z s fields.is_queued t)) ≡ count_below n (λ t. eqb (mem_in z s fields.is_queued t) 1)
 queued-count {z} {s} n w =
-    count-same n (λ t. is_set (mem_in z s fields.is_queued t)) (λ t. eqb (mem_in z s fields.is_queued t) 1)
-    (λ t. bit (mem_in z s fields.is_queued t) (field-most w fields.is_queued t))
+    count_same n (λ t. is_set (mem_in z s fields.is_queued t)) (λ t. eqb (mem_in z s fields.is_queued t) 1)
+    (λ t l. bit (mem_in z s fields.is_queued t) (field-most w fields.is_queued t))
   where
     bit : (x : ℕ) → x ≤ 1 → is_set x ≡ eqb x 1
     bit zero h = refl

@@ -1,6 +1,6 @@
 -- What goes with a walk: the list of what was met, that it stands in order by a key, and that it is linked backwards too.
 use Rattle.std.specs.Prelude.{◌≡◌, refl, List, [], ◌∷◌, ◌++◌, reverse, ℕ, suc, ◌+◌, ◌-◌, ◌≤◌, ◌<◌, length}
-use Rattle.std.proofs.Common.{sym, ap, subst, ◌∙◌, append_assoc, arith, length-append}
+use Rattle.std.proofs.Common.{sym, ap, subst, ◌∙◌, arith, length-append}
 use Rattle.std.proofs.lemmas.List.{reverse-append}
 use Rattle.machine.specs.Good.{Each}
 use Rattle.chain.specs.Lists.{all_map}
@@ -8,7 +8,7 @@ use Rattle.chain.specs.Links.{Links, Chain, final, final-end}
 use Rattle.chain.specs.Ordered.{Sorted}
 use Rattle.state.specs.WellFormed.{Rising}
 use Rattle.chain.specs.Prefix.{Prefix, prefix-links, prefix-more, links-distinct, links-below}
-use Rattle.rules.specs.Walk.{Walking, walk-long, walk-bad}
+use Rattle.rules.specs.Walk.{Walking, each_more, walk-long, walk-bad, reverse_about}
 
 -- `Walking` with what was met in sight.
 pub record Trail (g : ℕ → ℕ) (P : ℕ → Type 0) (h link last k : ℕ) (xs : List ℕ) : Type 0 where
@@ -22,10 +22,6 @@ trail-walking {xs = xs} t = record { seen = xs; prefix = t.prefix; each = t.each
 
 pub trail-start : {g : ℕ → ℕ} {P : ℕ → Type 0} {h : ℕ} → Trail g P h h 0 0 []
 trail-start = record { prefix = refl; each = tt; count = refl; ends = refl }
-
-pub each_more : (P : ℕ → Type 0) (xs : List ℕ) (x : ℕ) → Each P xs → P x → Each P (xs ++ x ∷ [])
-each_more P [] x a p = (p, tt)
-each_more P (y ∷ xs) x a p = (a.0, each_more P xs x a.1 p)
 
 -- One number more.
 pub trail_more
@@ -186,16 +182,10 @@ links-after : (g : ℕ → ℕ) (h : ℕ) (us : List ℕ) (x : ℕ) (vs : List �
 links-after g h [] x vs l = l.1
 links-after g h (u ∷ us) x vs l = links-after g (g u) us x vs l.1
 
-reverse-split : (xs : List ℕ) (x : ℕ) (ys : List ℕ) → reverse (xs ++ x ∷ ys) ≡ reverse ys ++ x ∷ reverse xs
-reverse-split xs x ys =
-    reverse-append xs (x ∷ ys)
-    ∙ ap (λ (l : List ℕ). l ++ reverse xs) (reverse-append (x ∷ []) ys)
-    ∙ append_assoc (reverse ys) (x ∷ []) (reverse xs)
-
 pub back-same
     : (g : ℕ → ℕ) (h t : ℕ) (xs : List ℕ) (x : ℕ) (ys : List ℕ)
     → Links g h (reverse xs)
     → Links g t (reverse (xs ++ x ∷ ys))
     → g x ≡ h
 back-same g h t xs x ys l m =
-    first-same g (g x) h (reverse xs) (links-after g t (reverse ys) x (reverse xs) (subst (λ (us : List ℕ). Links g t us) (reverse-split xs x ys) m)) l
+    first-same g (g x) h (reverse xs) (links-after g t (reverse ys) x (reverse xs) (subst (λ (us : List ℕ). Links g t us) (reverse_about xs x ys) m)) l

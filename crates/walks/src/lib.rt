@@ -19,7 +19,7 @@ ghost use Rattle.walks.specs.Queues.{TimerFacts, ExitFacts, AgeFacts, QueueFacts
 use memory::Number;
 use rules::Checked;
 use state::field::{self, Field};
-use state::{Count, Index};
+use state::{CallKind, Count, Index};
 
 // Of how many of the first `n` records a field is not 0.
 pub fn count_set<T: Number + Drop>(v: &Checked, f: Field<T>, n: Index) -> Count
@@ -35,7 +35,7 @@ pub fn count_set<T: Number + Drop>(v: &Checked, f: Field<T>, n: Index) -> Count
     count
 }
 
-// Is a period none, or no shorter than 100 µs?
+// Is a period none, or no shorter than 100 µs? 0 is for none: the layout gives the number, and it is compared as a number.
 fn period_ok(hz: u32, p: u64) -> bool
     ensures { IsTrue result ↔ PeriodOk hz p }
 {
@@ -46,7 +46,8 @@ fn period_ok(hz: u32, p: u64) -> bool
     p == 0 || shortest.to_counts(hz) <= p
 }
 
-// Is the period of timer 0 10 ms, and where it is queued, is its deadline after the last tick?
+// Is the period of timer 0 10 ms, and where it is queued, is its deadline after the last tick? Whether a timer is queued is 1 or 0, here and
+// below: the layout gives the number, and it is compared as a number.
 fn tick_ok(v: &Checked) -> bool
     ensures { IsTrue result ↔ TickOk v.now.sizes v.now.bytes.now }
 {
@@ -66,7 +67,8 @@ fn kernel_ok(v: &Checked, t: Index) -> bool
     period_ok(v.sizes.hz, v.get(field::PERIOD, t)) && (t != 0 || tick_ok(v))
 }
 
-// Is `t`, a process's own timer, in order: queued only while the process is in a `tsleep`?
+// Is `t`, a process's own timer, in order: queued only while the process is in a `tsleep`? The pid 0 is for a free record, here and below: the
+// layout gives the number, and others are compared with it as numbers.
 fn own_ok(v: &Checked, t: Index) -> bool
     requires above { v.now.sizes.timers ≤ t }
     requires below { t < v.now.sizes.timers + v.now.sizes.processes }
@@ -74,7 +76,7 @@ fn own_ok(v: &Checked, t: Index) -> bool
 {
     let i = t - v.sizes.timers;
     v.get(field::IS_QUEUED, t) != 1
-        || (v.get(field::PID, i) != 0 && v.get(field::RESUME_KIND, i) == state::TSLEEP)
+        || (v.get(field::PID, i) != 0 && v.get(field::RESUME_KIND, i) == CallKind::Tsleep.number())
 }
 
 // Is timer `t` in order?
@@ -123,7 +125,8 @@ pub fn timer_queue_ok(v: &Checked) -> Option<Count>
     Some(n)
 }
 
-// Are the exits of record `i` as many cells as it says, each of which names it as its owner?
+// Are the exits of record `i` as many cells as it says, each of which names it as its owner? It leaves its loop where it finds a fault: links are
+// no iterator, so there is no `all` of them.
 pub fn exits_ok(v: &Checked, i: Index) -> bool
     requires { i < v.now.sizes.processes }
     ensures { IsTrue result ↔ ExitsOk (sizes_in v.now.sizes) (mem_in v.now.sizes v.now.bytes.now) i }
@@ -155,11 +158,10 @@ fn exits_of(v: &Checked, i: Index) -> Option<u32>
     if v.get(field::PID, i) == 0 {
         return Some(0);
     }
-    if exits_ok(v, i) {
-        Some(u32::from(v.get(field::NEXITS, i)))
-    } else {
-        None
+    if !exits_ok(v, i) {
+        return None;
     }
+    Some(u32::from(v.get(field::NEXITS, i)))
 }
 
 // Are the exits of every used record in order? Then how many they are together.
@@ -205,7 +207,7 @@ pub fn ages_ok(v: &Checked) -> Option<Count>
     }
 }
 
-// Are the timers in order, and are those in their queue all that are queued?
+// Are the timers in order, and are those in their queue all that are queued? This and the two below are one expression each.
 pub fn timer_facts(v: &Checked) -> bool
     ensures { IsTrue result ↔ TimerFacts (sizes_in v.now.sizes) (mem_in v.now.sizes v.now.bytes.now) }
 {

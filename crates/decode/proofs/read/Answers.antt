@@ -8,8 +8,8 @@ returns-in_ok-how-in-1 c = search (reading, c.in_ok-how-in-1.ensures)
 pub returns-in_ok-flags-in-2 : goal.returns-in_ok-flags-in-2
 returns-in_ok-flags-in-2 c = search (reading, c.in_ok-flags-in-2.ensures)
 
-pub returns-in_ok-length-in-3 : goal.returns-in_ok-length-in-3
-returns-in_ok-length-in-3 c = search (reading, c.in_ok-length-in-3.ensures)
+pub returns-in_ok-bytes-in-3 : goal.returns-in_ok-bytes-in-3
+returns-in_ok-bytes-in-3 c = search (reading, c.in_ok-bytes-in-3.ensures)
 
 pub returns-in_ok-numbers-in-4 : goal.returns-in_ok-numbers-in-4
 returns-in_ok-numbers-in-4 c = search (reading, c.in_ok-numbers-in-4.ensures)
@@ -53,8 +53,8 @@ returns-in_ok-reading-in-16 c = search (reading, c.in_ok-reading-in-16.ensures)
 pub returns-in_ok-numbers-in-17 : goal.returns-in_ok-numbers-in-17
 returns-in_ok-numbers-in-17 c = search (reading, c.in_ok-numbers-in-17.ensures)
 
-pub returns-in_ok-length-in-18 : goal.returns-in_ok-length-in-18
-returns-in_ok-length-in-18 c = search (reading, c.in_ok-length-in-18.ensures)
+pub returns-in_ok-status-in-18 : goal.returns-in_ok-status-in-18
+returns-in_ok-status-in-18 c = search (reading, c.in_ok-status-in-18.ensures)
 
 pub returns-in_ok-numbers-in-19 : goal.returns-in_ok-numbers-in-19
 returns-in_ok-numbers-in-19 c = search (reading, c.in_ok-numbers-in-19.ensures)

@@ -1,8 +1,8 @@
 -- `index::used_ok` meets its contract: the words that have a bit for one are as computed, and the others 0.
 use Rattle.std.specs.Prelude.{◌≡◌, refl}
 use Rattle.std.proofs.Common.{rules, tests, arith}
-use Rattle.rules.specs.Below.{all_below_by}
-use Rattle.index.specs.All.{all_from_by, compared-all, compared-not}
+use Rattle.rules.specs.Below.{all_below_by, all_from_by}
+use Rattle.index.specs.All.{compared-all, compared-not}
 use Rattle.index.specs.Bits.{unused}
 use Rattle.state.specs.Places.{cell_in}
 use Rattle.state.specs.Regions.{slot_of}

@@ -1,6 +1,9 @@
--- `kin::kin_ok` meets its contract, by its two parts.
-use Rattle.kin.specs.Kin.{kin-all, kin-children}
+-- `kin::kin_ok` meets its contract: nobody lives, or by its two parts.
+use Rattle.kin.specs.Kin.{kin-all, kin-children, none_kin}
 use Rattle.kin.proofs.kin_ok.Goals as goal
+
+pub returns-then-is_none : goal.returns-then-is_none
+returns-then-is_none c = none_kin c.get.result c.is_none.result c.requires c.get.ensures.value c.is_none.ensures c.if-is_none.true
 
 pub returns-then-parents_ok : goal.returns-then-parents_ok
 returns-then-parents_ok c =

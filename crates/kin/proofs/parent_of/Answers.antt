@@ -24,19 +24,19 @@ returns-in_err-at-clause-value c =
     rw c.from_residual.ensures
     (link-zero (mem_in c.args.v.now.sizes c.args.v.now.bytes.now) c.get.ensures.value c.if-get-eq0.false c.get-parent.ensures.value c.if-parent-eq0.false c.in_err-at.ensures.value)
 
-pub get-requires-3 : goal.get-requires-3
-get-requires-3 c = reach c.args.v.now.whole (search rules) (omega (arith, c.in_ok-at.ensures.value, parent-range c.args.v.now.whole c.args.i))
+pub get-pid-requires : goal.get-pid-requires
+get-pid-requires c = reach c.args.v.now.whole (search rules) (omega (arith, c.in_ok-at.ensures.value, parent-range c.args.v.now.whole c.args.i))
 
-pub returns-then-get-parent-clause-value : goal.returns-then-get-parent-clause-value
-returns-then-get-parent-clause-value c =
+pub returns-then-pid-parent-clause-value : goal.returns-then-pid-parent-clause-value
+returns-then-pid-parent-clause-value c =
     link-some (mem_in c.args.v.now.sizes c.args.v.now.bytes.now) c.get.ensures.value c.if-get-eq0.false c.get-parent.ensures.value c.if-parent-eq0.false
-    c.in_ok-at.ensures.value c.get-3.ensures.value c.if-get-parent.true
+    c.in_ok-at.ensures.value c.get-pid.ensures.value c.if-pid-parent.true
 
-pub returns-then-get-parent-clause-small : goal.returns-then-get-parent-clause-small
-returns-then-get-parent-clause-small c =
+pub returns-then-pid-parent-clause-small : goal.returns-then-pid-parent-clause-small
+returns-then-pid-parent-clause-small c =
     omega (arith, c.in_ok-at.ensures.value, parent-range c.args.v.now.whole c.args.i, (records-few c.args.v.now.whole).1)
 
-pub returns-else-get-parent-clause-value : goal.returns-else-get-parent-clause-value
-returns-else-get-parent-clause-value c =
+pub returns-else-pid-parent-clause-value : goal.returns-else-pid-parent-clause-value
+returns-else-pid-parent-clause-value c =
     link-other (mem_in c.args.v.now.sizes c.args.v.now.bytes.now) c.get.ensures.value c.if-get-eq0.false c.get-parent.ensures.value c.if-parent-eq0.false
-    c.in_ok-at.ensures.value c.get-3.ensures.value c.if-get-parent.false
+    c.in_ok-at.ensures.value c.get-pid.ensures.value c.if-pid-parent.false

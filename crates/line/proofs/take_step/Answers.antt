@@ -1,23 +1,28 @@
--- `line::take_step` meets its contract: each need by its law.
+-- `line::take_step` meets its contract: each case by its law.
 use Rattle.std.proofs.Common.{arith}
-use Rattle.line.specs.Took.{exit-asks, exit-long, exit-took, other-took, none-took}
+use Rattle.line.specs.Took.{exit-asks, exit-took, other-took, none-took}
 use Rattle.line.proofs.take_step.Goals as goal
 
-pub slice_bounds-line-count : goal.slice_bounds-line-count
-slice_bounds-line-count c = search exit-long
+pub returns-in_default-clause-took : goal.returns-in_default-clause-took
+returns-in_default-clause-took c =
+    none-took c.requires c.decode.ensures c.in_default.is (rw (c.view.ensures.bytes, c.view.ensures.sizes) at c.line.ensures.put)
 
-pub slice_bounds-line-start : goal.slice_bounds-line-start
-slice_bounds-line-start c = search exit-long
+pub line-requires-in-Exit : goal.line-requires-in-Exit
+line-requires-in-Exit c =
+    rw (c.view-in-Exit.ensures.bytes, c.view-in-Exit.ensures.sizes, c.take_call-reply.ensures.same.sizes)
+    (exit-asks c.requires c.decode.ensures c.in-Some.is c.in-Exit.is c.take_call-reply.ensures.done)
 
-pub line-requires : goal.line-requires
-line-requires c = search exit-asks
+pub returns-in-Exit-clause-took : goal.returns-in-Exit-clause-took
+returns-in-Exit-clause-took c =
+    exit-took c.requires c.decode.ensures c.in-Some.is c.in-Exit.is c.take_call-reply.ensures.done
+    (rw (c.view-in-Exit.ensures.bytes, c.view-in-Exit.ensures.sizes, c.take_call-reply.ensures.same.sizes) at c.line-in-Exit.ensures.put)
 
-pub returns-then-is_exit-clause-took : goal.returns-then-is_exit-clause-took
-returns-then-is_exit-clause-took c = search exit-took
-
-pub returns-else-is_exit-clause-took : goal.returns-else-is_exit-clause-took
-returns-else-is_exit-clause-took c =
-    other-took c.requires c.decode.ensures c.in-Some.is c.take_call-reply.ensures (omega arith) c.is_exit.ensures c.if-is_exit.false c.line-else-is_exit.ensures.put
-
-pub returns-in-None-clause-took : goal.returns-in-None-clause-took
-returns-in-None-clause-took c = none-took c.requires c.decode.ensures c.in-None.is c.line-in-None.ensures.put
+pub returns-in_default-call : goal.returns-in_default-call
+returns-in_default-call c =
+    record {
+      same = c.take_call-reply.ensures.same;
+      took =
+          other-took c.requires c.decode.ensures c.in-Some.is c.in_default-call.not-Exit c.take_call-reply.ensures.done (omega arith)
+          (rw (c.view-in_default-call.ensures.bytes, c.view-in_default-call.ensures.sizes, c.take_call-reply.ensures.same.sizes) at c.line-in_default-call.ensures.put);
+      out = c.line-in_default-call.ensures.name;
+    }

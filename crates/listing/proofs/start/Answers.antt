@@ -6,4 +6,7 @@ use Rattle.listing.proofs.start.Goals as goal
 
 pub returns : goal.returns
 unfolding steps_sizes
-returns c = started c.requires c.make.ensures refl
+returns c =
+    started c.requires
+    (rw (c.from.ensures, c.from-2.ensures, c.from-3.ensures, c.from-4.ensures, c.from-5.ensures, c.from-6.ensures) at c.make.ensures)
+    refl

@@ -23,14 +23,14 @@ returns-in_err-value c =
     let h = c.if-not-is_ascii_digit.ensures.cases in
     let ten = c.in_ok-checked_mul.ensures in
     let big = c.in_err-value.ensures in
-    rw c.from_residual-in_err-value.ensures (digits-big c.loop-b.invariant (omega arith) h.0 h.1 (omega (arith, ten.1, big)))
+    rw c.from_residual-in_err-value.ensures (digits-big c.loop-b.invariant (omega arith) h.0 h.1 (omega (arith, ten.1, big, c.from.ensures)))
 
 pub loop-b-preserved : goal.loop-b-preserved
 loop-b-preserved c =
     let h = c.if-not-is_ascii_digit.ensures.cases in
     let ten = c.in_ok-checked_mul.ensures in
     let one = c.in_ok-value.ensures in
-    rw (one.1, ten.1) (digits_more c.loop-b.invariant (omega arith) h.0 h.1 (omega (arith, one.0, ten.1)))
+    rw (one.1, ten.1, c.from.ensures) (digits_more c.loop-b.invariant (omega arith) h.0 h.1 (omega (arith, one.0, ten.1, c.from.ensures)))
 
 pub returns : goal.returns
 returns c = digits-end c.loop-b.invariant (omega arith)

@@ -3,8 +3,8 @@ use Rattle.std.proofs.Common.{arith}
 use Rattle.parse.specs.Parsed.{parsed-long, parsed-marked, parsed-plain}
 use Rattle.parse.proofs.parse.Goals as goal
 
-pub returns-then-line-gt4096 : goal.returns-then-line-gt4096
-returns-then-line-gt4096 c = parsed-long c.args.line.now (omega arith)
+pub returns-then-line-gt-LINE_MOST : goal.returns-then-line-gt-LINE_MOST
+returns-then-line-gt-LINE_MOST c = parsed-long c.args.line.now (omega arith)
 
 pub returns-in-Some : goal.returns-in-Some
 returns-in-Some c =

@@ -1,7 +1,7 @@
 -- `proc::canqlock` meets its contract: each need by its law.
 use Rattle.std.proofs.lemmas.Result.{err_from_is_err_and}
 use Rattle.proc.specs.Outside.{canqlock-outside}
-use Rattle.proc.specs.Plain.{canqlock-plain}
+use Rattle.proc.specs.Plain.{canqlock-took}
 use Rattle.proc.proofs.canqlock.Goals as goal
 
 pub returns-in_err-q-clause-done : goal.returns-in_err-q-clause-done
@@ -10,4 +10,4 @@ returns-in_err-q-clause-done c =
     rw (p.1, p.2) (canqlock-outside c.requires c.in_err-q.ensures.err)
 
 pub returns-clause-done : goal.returns-clause-done
-returns-clause-done c = canqlock-plain c.in_ok-q.ensures.ok c.canqlock.ensures.done
+returns-clause-done c = canqlock-took c.in_ok-q.ensures.ok c.canqlock.ensures.done

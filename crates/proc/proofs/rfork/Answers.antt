@@ -4,8 +4,8 @@ use Rattle.proc.specs.Outside.{rfork-flags, rfork_how}
 use Rattle.proc.specs.Plain.{rfork-plain}
 use Rattle.proc.proofs.rfork.Goals as goal
 
-pub returns-then-flags-gt4294967295-clause-done : goal.returns-then-flags-gt4294967295-clause-done
-returns-then-flags-gt4294967295-clause-done c = search rfork-flags
+pub returns-in_default-clause-done : goal.returns-in_default-clause-done
+returns-in_default-clause-done c = rfork-flags c.requires c.in_default.ensures
 
 pub returns-in_err-how-clause-done : goal.returns-in_err-how-clause-done
 returns-in_err-how-clause-done c =
@@ -13,4 +13,4 @@ returns-in_err-how-clause-done c =
     rw (p.1, p.2) (rfork_how c.requires c.in_err-how.ensures)
 
 pub returns-clause-done : goal.returns-clause-done
-returns-clause-done c = rfork-plain _ c.in_ok-how.ensures c.rfork.ensures.done
+returns-clause-done c = rfork-plain _ c.in-Ok.ensures.1 c.in_ok-how.ensures c.rfork.ensures.done

@@ -1,7 +1,7 @@
 -- `proc::tadd` meets its contract: each need by its law.
 use Rattle.std.proofs.lemmas.Result.{err_from_is_err_and}
 use Rattle.proc.specs.Outside.{tadd-kind, tadd-nanoseconds, tadd-rendez, tadd-timer}
-use Rattle.proc.specs.Plain.{tadd-asks, tadd-plain}
+use Rattle.proc.specs.Plain.{tadd-asks, tadd-took}
 use Rattle.proc.proofs.tadd.Goals as goal
 
 pub returns-in_err-t-clause-done : goal.returns-in_err-t-clause-done
@@ -28,4 +28,4 @@ pub tadd-requires : goal.tadd-requires
 tadd-requires c = tadd-asks c.requires c.in_ok-t.ensures.ok c.in_ok-d.ensures.ok c.in_ok-r.ensures.ok
 
 pub returns-clause-done : goal.returns-clause-done
-returns-clause-done c = tadd-plain _ c.in_ok-t.ensures.ok c.in_ok-kind.ensures c.in_ok-d.ensures.ok c.in_ok-r.ensures.ok c.tadd.ensures.done
+returns-clause-done c = tadd-took _ c.in_ok-t.ensures.ok c.in_ok-kind.ensures c.in_ok-d.ensures.ok c.in_ok-r.ensures.ok c.tadd.ensures.done

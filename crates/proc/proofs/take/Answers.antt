@@ -1,5 +1,5 @@
 -- `proc::take` meets its contract: each need by its law.
-use Rattle.proc.specs.Arms.{take-calls, take-none, take-took}
+use Rattle.proc.specs.Arms.{take-none, take-took}
 use Rattle.proc.specs.Taken.{taken-short}
 use Rattle.proc.proofs.take.Goals as goal
 
@@ -8,9 +8,6 @@ returns-then-message-lt-SHORTEST c = search taken-short
 
 pub returns-in_default : goal.returns-in_default
 returns-in_default c = search take-none
-
-pub take_call-requires : goal.take_call-requires
-take_call-requires c = search take-calls
 
 pub returns : goal.returns
 returns c = search take-took

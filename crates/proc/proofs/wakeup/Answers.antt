@@ -1,7 +1,7 @@
 -- `proc::wakeup` meets its contract: each need by its law.
 use Rattle.std.proofs.lemmas.Result.{err_from_is_err_and}
 use Rattle.proc.specs.Outside.{wakeup-outside}
-use Rattle.proc.specs.Plain.{wakeup-plain}
+use Rattle.proc.specs.Plain.{wakeup-took}
 use Rattle.proc.proofs.wakeup.Goals as goal
 
 pub returns-in_err-r-clause-done : goal.returns-in_err-r-clause-done
@@ -10,4 +10,4 @@ returns-in_err-r-clause-done c =
     rw (p.1, p.2) (wakeup-outside c.requires c.in_err-r.ensures.err)
 
 pub returns-clause-done : goal.returns-clause-done
-returns-clause-done c = wakeup-plain c.in_ok-r.ensures.ok c.wakeup.ensures.done
+returns-clause-done c = wakeup-took c.in_ok-r.ensures.ok c.wakeup.ensures.done

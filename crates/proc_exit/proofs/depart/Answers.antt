@@ -13,10 +13,10 @@ tell_parent-requires c =
 pub returns-in-Some-clause-done : goal.returns-in-Some-clause-done
 returns-in-Some-clause-done c =
     departed-told (rw c.in-Some.is at c.requires) c.leave.ensures.done
-    (rw (c.view.ensures.bytes, c.view.ensures.sizes) at c.load-p.ensures)
+    (rw (c.view.ensures.bytes, c.view.ensures.sizes) at c.load-p.ensures.loaded)
     (rw c.leave.ensures.same.sizes at c.tell_parent.ensures.done)
 
 pub returns-in_default-clause-done : goal.returns-in_default-clause-done
 returns-in_default-clause-done c =
     departed_alone (rw c.in_default.is at c.requires) c.leave.ensures.done
-    (rw (c.view.ensures.bytes, c.view.ensures.sizes) at c.load-p.ensures) refl
+    (rw (c.view.ensures.bytes, c.view.ensures.sizes) at c.load-p.ensures.loaded) refl

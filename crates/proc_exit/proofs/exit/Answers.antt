@@ -13,12 +13,12 @@ pub returns-in_err-i-clause-done : goal.returns-in_err-i-clause-done
 returns-in_err-i-clause-done c =
     let p = err_from_is_err_and c.from_residual.result c.from_residual.ensures.1 in
     rw (p.1, p.2)
-    (exit-refused c.requires (λ k. omega (arith, c.shared_slice_known-1.given k))
+    (exit-refused c.requires (λ k. omega (arith, c.type_inv.status k))
     (rw (c.view.ensures.bytes, c.view.ensures.sizes) at c.in_err-i.ensures.err))
 
 pub pexit-requires : goal.pexit-requires
 pexit-requires c =
-    exit-pexit c.requires (λ k. omega (arith, c.shared_slice_known-1.given k))
+    exit-pexit c.requires (λ k. omega (arith, c.type_inv.status k))
     (rw (c.view.ensures.bytes, c.view.ensures.sizes) at c.in_ok-i.ensures.ok)
 
 pub returns-clause-done : goal.returns-clause-done

@@ -3,7 +3,7 @@ use Rattle.proc_exit.specs.Leave.{leave-clear, leave-release, leave-stop, left}
 use Rattle.proc_exit.proofs.leave.Goals as goal
 
 pub take_all-requires : goal.take_all-requires
-take_all-requires c = search leave-clear
+take_all-requires c = leave-clear c.requires
 
 pub stop-requires : goal.stop-requires
 stop-requires c = rw c.take_all.ensures.same.sizes (leave-stop c.requires c.take_all.ensures.cleared)

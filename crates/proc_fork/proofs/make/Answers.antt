@@ -30,4 +30,4 @@ fork-requires c =
 pub returns-clause-done : goal.returns-clause-done
 returns-clause-done c =
     make-done c.requires (rw (c.view.ensures.bytes, c.view.ensures.sizes) at c.in_ok-pid.ensures.ok) c.spend.ensures.done
-    c.in_ok-made.ensures.ok c.has.ensures (rw c.spend.ensures.same.sizes at c.fork.ensures.done)
+    c.in_ok-made.ensures.ok c.contains.ensures (rw c.spend.ensures.same.sizes at c.fork.ensures.done)

@@ -6,8 +6,8 @@ use Rattle.proc_fork.proofs.rfork.Goals as goal
 pub returns-then-in_interrupt-clause-done : goal.returns-then-in_interrupt-clause-done
 returns-then-in_interrupt-clause-done c = search rfork-marked
 
-pub returns-then-bad-clause-done : goal.returns-then-bad-clause-done
-returns-then-bad-clause-done c = search rfork-bad
+pub returns-then-are_bad-clause-done : goal.returns-then-are_bad-clause-done
+returns-then-are_bad-clause-done c = search rfork-bad
 
 pub up-requires : goal.up-requires
 up-requires c = rw (c.view.ensures.bytes, c.view.ensures.sizes) (record { sizes = c.requires.holds.sizes; long = c.requires.holds.state.long })
@@ -23,8 +23,8 @@ make-requires c =
     let u = rw (c.view.ensures.bytes, c.view.ensures.sizes) at c.in_ok-i.ensures.ok in
     search (rfork-make, u)
 
-pub returns-then-has-clause-done : goal.returns-then-has-clause-done
-returns-then-has-clause-done c = search rfork-rest
+pub returns-then-contains-clause-done : goal.returns-then-contains-clause-done
+returns-then-contains-clause-done c = search rfork-rest
 
 pub returns-clause-done : goal.returns-clause-done
 returns-clause-done c =

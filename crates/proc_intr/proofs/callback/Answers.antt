@@ -1,21 +1,21 @@
 -- `proc_intr::callback` meets its contract: each need by its law.
-use Rattle.proc_intr.specs.Callback.{callback-own, callback-ticks, callback-wakes, called_kernel, called-own, called-tick}
+use Rattle.proc_intr.specs.Callback.{callback-own, callback-ticks, callback-wakes, called-own, called-tick, called_kernel}
 use Rattle.proc_intr.proofs.callback.Goals as goal
 
 pub tick-requires : goal.tick-requires
-tick-requires c = search callback-ticks
-
-pub returns-then-t-eq0-clause-done : goal.returns-then-t-eq0-clause-done
-returns-then-t-eq0-clause-done c = search called-tick
-
-pub twakeup-requires : goal.twakeup-requires
-twakeup-requires c = search callback-own
-
-pub returns-then-kernel-t-clause-done : goal.returns-then-kernel-t-clause-done
-returns-then-kernel-t-clause-done c = search called-own
+tick-requires c = callback-ticks c.requires
 
 pub wakeup-requires : goal.wakeup-requires
-wakeup-requires c = search callback-wakes
+wakeup-requires c = callback-wakes c.requires c.get-r.ensures.value
 
-pub returns-else-kernel-t-clause-done : goal.returns-else-kernel-t-clause-done
-returns-else-kernel-t-clause-done c = search called_kernel
+pub twakeup-requires : goal.twakeup-requires
+twakeup-requires c = callback-own c.requires c.in-Process.ensures
+
+pub returns-in-Clock-clause-done : goal.returns-in-Clock-clause-done
+returns-in-Clock-clause-done c = called-tick c.requires c.in-Clock.ensures c.tick.ensures.became
+
+pub returns-in-Kernel-clause-done : goal.returns-in-Kernel-clause-done
+returns-in-Kernel-clause-done c = called_kernel c.requires c.in-Kernel.ensures c.get-r.ensures.value c.wakeup.ensures.done
+
+pub returns-in-Process-clause-done : goal.returns-in-Process-clause-done
+returns-in-Process-clause-done c = called-own c.requires c.in-Process.ensures c.twakeup.ensures.done

@@ -7,7 +7,7 @@ pub get-nexits-requires : goal.get-nexits-requires
 get-nexits-requires c = search (rules, wait-low c.requires)
 
 pub returns-then-nexits-eq0-clause-done : goal.returns-then-nexits-eq0-clause-done
-returns-then-nexits-eq0-clause-done c = search wait-slept
+returns-then-nexits-eq0-clause-done c = wait-slept c.requires c.get-nexits.ensures.value c.if-nexits-eq0.true c.wait_on.ensures.done
 
 pub returns-clause-done : goal.returns-clause-done
-returns-clause-done c = search wait-finished
+returns-clause-done c = wait-finished c.requires c.get-nexits.ensures.value c.if-nexits-eq0.false c.finish_wait.ensures.done

@@ -3,8 +3,8 @@ use Rattle.proc_sched.specs.Check.{out_small, out_del, out_limbo, out_runs}
 use Rattle.std.proofs.Common.{arith}
 use Rattle.proc_sched.proofs.return_tsleep.Goals as goal
 
-pub overflow_add-kernel : goal.overflow_add-kernel
-overflow_add-kernel c = omega (arith, out_small)
+pub overflow_add-own : goal.overflow_add-own
+overflow_add-own c = omega (arith, out_small)
 
 pub del-requires : goal.del-requires
 del-requires c = out_del c.requires

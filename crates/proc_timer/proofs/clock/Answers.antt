@@ -8,9 +8,9 @@ returns-then-bad_now-clause-done c =
 
 pub add_after-requires : goal.add_after-requires
 add_after-requires c =
-    first-asks c.requires (rw (c.view.ensures.bytes, c.view.ensures.sizes) at c.bad_now.ensures) c.if-bad_now.false c.get-period.ensures.value
+    first-asks c.requires (rw (c.view.ensures.bytes, c.view.ensures.sizes) at c.bad_now.ensures) c.if-bad_now.false c.get-counts.ensures.value
 
 pub returns-clause-done : goal.returns-clause-done
 returns-clause-done c =
-    clock-done c.requires c.ranges.reading (rw (c.view.ensures.bytes, c.view.ensures.sizes) at c.bad_now.ensures) c.if-bad_now.false c.get-period.ensures.value
+    clock-done c.requires c.ranges.reading (rw (c.view.ensures.bytes, c.view.ensures.sizes) at c.bad_now.ensures) c.if-bad_now.false c.get-counts.ensures.value
     c.add_after.ensures.done

@@ -12,5 +12,6 @@ get-state-requires c = reach c.args.v.now.whole (search rules) c.loop-i-test.tru
 
 pub loop-i-preserved : goal.loop-i-preserved
 loop-i-preserved c =
-    counting_more c.loop-i.invariant (rw c.get-state.ensures.value at c.tally-ready.ensures) (rw c.get-state.ensures.value at c.tally-asleep.ensures)
+    counting_more c.loop-i.invariant (rw (c.get-state.ensures.value, c.number.ensures) at c.tally-ready.ensures)
+    (rw (c.get-state.ensures.value, c.number-in-loop-i.ensures) at c.tally-asleep.ensures)
     (rw c.queueing_at.ensures at c.tally-queueing.ensures)

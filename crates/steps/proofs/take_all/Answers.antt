@@ -1,5 +1,5 @@
 -- `steps::take_all` meets its contract: it goes on so far.
-use Rattle.std.proofs.Common.{◌∙◌, arith, rules}
+use Rattle.std.proofs.Common.{◌∙◌, arith}
 use Rattle.steps.specs.All.{all-more}
 use Rattle.steps.proofs.take_all.Goals as goal
 

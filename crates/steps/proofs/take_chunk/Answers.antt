@@ -1,8 +1,9 @@
 -- `steps::take_chunk` meets its contract: a turn takes more of the chunk.
 use Rattle.std.specs.Prelude.{◌≡◌, refl, List, ℕ}
-use Rattle.std.proofs.Common.{◌∙◌, arith, rules}
+use Rattle.std.proofs.Common.{◌∙◌, rules}
 use Rattle.state.specs.declared.Sizes.{Sizes}
-use Rattle.steps.specs.Taking.{Taking, take-start, take_more}
+use Rattle.listing.specs.Rest.{rest-whole, rest_join}
+use Rattle.steps.specs.Taking.{Taking, take-first, rest_more}
 use Rattle.steps.proofs.take_chunk.Goals as goal
 
 -- The buffer by another name.
@@ -13,14 +14,15 @@ taking-as
     → Taking z chunk s₀ held₀ have₀ n₀ s held xs from have n
 taking-as xs ys e t = rw e t
 
-pub loop-from-init : goal.loop-from-init
-loop-from-init g c = record { taking = take-start c.requires; sizes = refl }
+pub loop-rest-init : goal.loop-rest-init
+loop-rest-init g c = record { taking = take-first c.requires; rest = rest-whole; sizes = refl }
 
-pub loop-from-preserved : goal.loop-from-preserved
-loop-from-preserved g c =
-    let w = c.loop-from.invariant in
-    let e = rw w.sizes at c.feed-from.ensures.ends in
+pub loop-rest-preserved : goal.loop-rest-preserved
+loop-rest-preserved g c =
+    let w = c.loop-rest.invariant in
+    let e = rw w.sizes at c.feed-rest.ensures.ends in
     record {
-      taking = taking-as _ c.feed-from.new.out.bytes.now (search rules) (take_more w.taking e (c.feed-from.ensures.held ∙ w.taking.asks.line));
-      sizes = c.feed-from.ensures.sizes ∙ w.sizes;
+      taking = taking-as _ c.feed-rest.new.out.bytes.now (search rules) (rest_more w.taking w.rest c.feed-rest.ensures.rest e (c.feed-rest.ensures.held ∙ w.taking.asks.line));
+      rest = rest_join w.rest c.feed-rest.ensures.rest;
+      sizes = c.feed-rest.ensures.same.sizes ∙ w.sizes;
     }

@@ -1,12 +1,12 @@
--- `timers::remove` meets its contract: by its law of specs/Behind.antt.
-use Rattle.timers.specs.Behind.{removed-from}
-use Rattle.timers.specs.Remove.{removed-none}
+-- `timers::remove` meets its contract: by its laws of specs/Remove.antt.
+use Rattle.timers.specs.Remove.{removed-one, removed-none}
 use Rattle.timers.proofs.remove.Goals as goal
 
 pub returns-clause-removed : goal.returns-clause-removed
 returns-clause-removed c =
-    removed-from c.requires c.link_out.ensures.same c.get-queued.ensures.value c.if-queued-eq0.false
-    (rw (c.view.ensures.bytes, c.view.ensures.sizes) at c.find_link-at.ensures) c.link_out.ensures.stored c.set.ensures.put
+    removed-one c.requires (rw (c.view-v.ensures.bytes, c.view-v.ensures.sizes) at c.is_queued.ensures) c.if-not-is_queued.false
+    (rw (c.view-v.ensures.bytes, c.view-v.ensures.sizes) at c.find_link-at.ensures) c.take_out.ensures.stored
 
-pub returns-then-queued-eq0-clause-removed : goal.returns-then-queued-eq0-clause-removed
-returns-then-queued-eq0-clause-removed c = removed-none c.requires c.get-queued.ensures.value c.if-queued-eq0.true
+pub returns-then-not-is_queued-clause-removed : goal.returns-then-not-is_queued-clause-removed
+returns-then-not-is_queued-clause-removed c =
+    removed-none c.requires (rw (c.view-v.ensures.bytes, c.view-v.ensures.sizes) at c.is_queued.ensures) c.if-not-is_queued.true

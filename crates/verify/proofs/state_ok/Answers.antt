@@ -7,7 +7,7 @@ use Rattle.verify.proofs.state_ok.Goals as goal
 pub returns-in-Some : goal.returns-in-Some
 returns-in-Some c =
     let e = c.in-Some.ensures.same in
-    let m = c.marks_ok.ensures.0 c.if-not-marks_ok.false in
+    let m = c.marks_ok.ensures.0 c.if-marks_ok.true in
     as_true (rw (e.1, e.0) at c.facts_ok.ensures)
     (whole-checked {z = c.args.v.now.sizes} (record { sizes = c.requires; state = c.in-Some.ensures.exact.0 refl }) m.mark m.layout)
     (λ x. x.facts)

@@ -1,7 +1,7 @@
 -- `walks::all_exits_ok` meets its contract: the records below i are in order and have n exits.
 use Rattle.std.proofs.Common.{rules, arith}
 use Rattle.rules.specs.Reach.{records-few}
-use Rattle.walks.specs.AllExits.{exits-start, exits-few, exits-more, exits-bad, exits-end}
+use Rattle.walks.specs.AllExits.{exits-start, exits-more, exits-bad, exits-end}
 use Rattle.walks.proofs.all_exits_ok.Goals as goal
 
 pub loop-i-init : goal.loop-i-init
@@ -12,10 +12,10 @@ returns-in_err-n c = rw c.from_residual.ensures (exits-bad c.loop-i.invariant c.
 
 pub overflow_add-n : goal.overflow_add-n
 overflow_add-n c =
-    omega (arith, c.loop-i.invariant.few, c.loop-i-test.true, (records-few c.args.v.now.whole).1, exits-few c.loop-i.i c.args.v.now.whole c.in_ok-n.ensures.1)
+    omega (arith, c.loop-i.invariant.few, c.loop-i-test.true, (records-few c.args.v.now.whole).1, c.in_ok-n.ensures.2)
 
 pub loop-i-preserved : goal.loop-i-preserved
-loop-i-preserved c = exits-more c.loop-i.invariant c.args.v.now.whole c.loop-i-test.true c.in_ok-n.ensures
+loop-i-preserved c = exits-more c.loop-i.invariant c.loop-i-test.true c.in_ok-n.ensures
 
 pub returns : goal.returns
 returns c = exits-end c.loop-i.invariant (search rules)

@@ -5,7 +5,8 @@ use Rattle.state.specs.Abs.{is_set}
 use Rattle.state.specs.Places.{cell_in}
 use Rattle.state.specs.Regions.{slot_of}
 use Rattle.rules.specs.Reach.{reach}
-use Rattle.walks.specs.Counts.{count-none, count-yes, count-no, count-few}
+use Rattle.rules.specs.Counting.{count_few}
+use Rattle.walks.specs.Counts.{count-none, count-yes, count-no}
 use Rattle.walks.proofs.count_set.Goals as goal
 use Rattle.walks.proofs.count_set.Goals.{then-value-ne0, else-value-ne0}
 
@@ -17,7 +18,7 @@ get-requires g c = reach c.args.v.now.whole c.requires.inside (omega (arith, c.r
 
 pub overflow_add-count : goal.overflow_add-count
 overflow_add-count g c =
-    omega (arith, c.loop-i.invariant, count-few c.loop-i.i (λ k. is_set (cell_in c.args.v.now.sizes c.args.v.now.bytes.now (slot_of c.args.f g.T.Number.width) k)), c.loop-i-test.true)
+    omega (arith, c.loop-i.invariant, count_few c.loop-i.i (λ k. is_set (cell_in c.args.v.now.sizes c.args.v.now.bytes.now (slot_of c.args.f g.T.Number.width) k)), c.loop-i-test.true)
 
 pub loop-i-preserved : goal.loop-i-preserved
 loop-i-preserved g c =

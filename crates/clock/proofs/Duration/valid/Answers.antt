@@ -5,4 +5,4 @@ use Rattle.clock.proofs.Duration.valid.Goals as goal
 
 pub returns : goal.returns
 unfolding valid_duration
-returns c = refl
+returns c = rw c.from.ensures refl

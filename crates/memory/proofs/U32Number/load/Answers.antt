@@ -1,7 +1,7 @@
--- The two halves of a number of 4 bytes: `le_split`.
-use Rattle.memory.specs.Le.{le_split}
-use Rattle.std.proofs.Common.{arith}
+-- The four bytes, as std reads them.
+use Rattle.std.proofs.Common.{◌∙◌}
+use Rattle.memory.specs.Bytes.{bytes-read}
 use Rattle.memory.proofs.U32Number.load.Goals as goal
 
 pub returns-clause-value : goal.returns-clause-value
-returns-clause-value c = rw (le_split 2 2) (omega arith)
+returns-clause-value c = c.from_le_bytes.ensures ∙ bytes-read 3 c.args.s.now c.args.at c.copy_from_slice.ensures.after

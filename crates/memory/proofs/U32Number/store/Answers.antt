@@ -1,6 +1,8 @@
--- The two halves of a number of 4 bytes: `put-split`.
-use Rattle.memory.specs.Le.{put-split}
+-- The four bytes, as std makes them.
+use Rattle.std.specs.Prelude.{refl}
+use Rattle.memory.specs.Bytes.{bytes-written}
 use Rattle.memory.proofs.U32Number.store.Goals as goal
 
 pub returns : goal.returns
-returns c = rw (put-split 2 2) (cc)
+returns c =
+    bytes-written 4 c.args.s.now c.args.at c.args.self c.requires.inside (rw (c.copy_from_slice.ensures.after, c.to_le_bytes.ensures) refl)

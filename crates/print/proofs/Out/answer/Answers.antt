@@ -1,4 +1,5 @@
 -- `print::Out::answer` meets its contract: each answer by its law.
+-- An answer for each: with their laws named on the function the search gives up at its limit.
 use Rattle.machine.specs.Basics.{ascii}
 use Rattle.print.specs.Reply.{reply-pid, reply-run, reply-run-child, reply-done, reply-asleep, reply-yes, reply-no, reply-fired, reply-exit, reply-child, reply-idle, reply-end}
 use Rattle.print.proofs.Out.answer.Goals as goal
@@ -13,7 +14,7 @@ returns-in-Run-clause-put c = search reply-run
 
 pub returns-in-RunChild-clause-put : goal.returns-in-RunChild-clause-put
 unfolding ascii
-returns-in-RunChild-clause-put c = search reply-run-child
+returns-in-RunChild-clause-put c = reply-run-child c.in-RunChild.is (rw c.from.ensures at c.run_child.ensures.put)
 
 pub returns-in-Done-clause-put : goal.returns-in-Done-clause-put
 unfolding ascii
@@ -41,7 +42,7 @@ returns-in-Exit-clause-put c = search reply-exit
 
 pub returns-in-Child-clause-put : goal.returns-in-Child-clause-put
 unfolding ascii
-returns-in-Child-clause-put c = search reply-child
+returns-in-Child-clause-put c = reply-child c.in-Child.is (rw c.from-in-Child.ensures at c.with_text-in-Child.ensures.put)
 
 pub returns-in-Idle-clause-put : goal.returns-in-Idle-clause-put
 unfolding ascii

@@ -5,4 +5,5 @@ use Rattle.print.proofs.Out.reply.Goals as goal
 
 pub returns-in-Err-clause-put : goal.returns-in-Err-clause-put
 unfolding ascii
-returns-in-Err-clause-put c = let p = rw c.number.ensures at c.number-in-Err.ensures.put in reply-of c.in-Err.is (reply-refused p)
+returns-in-Err-clause-put c =
+    let p = rw (c.from.ensures, c.number.ensures) at c.number-in-Err.ensures.put in reply-of c.in-Err.is (reply-refused p)

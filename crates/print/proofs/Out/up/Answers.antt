@@ -1,12 +1,12 @@
--- `print::Out::up` meets its contract: each return by its law.
+-- `print::Out::up` meets its contract: each case by its law.
 use Rattle.print.specs.Pids.{up-asks, up_none, up-some}
 use Rattle.print.proofs.Out.up.Goals as goal
 
-pub returns-then-link-eq0-clause-put : goal.returns-then-link-eq0-clause-put
-returns-then-link-eq0-clause-put c = search up_none
-
 pub pid-requires : goal.pid-requires
-pid-requires c = search up-asks
+pid-requires c = up-asks c.in-Some.ensures.value c.requires
 
-pub returns-else-link-eq0-clause-put : goal.returns-else-link-eq0-clause-put
-returns-else-link-eq0-clause-put c = search up-some
+pub returns-in-None-clause-put : goal.returns-in-None-clause-put
+returns-in-None-clause-put c = up_none c.in-None.ensures.value c.text.ensures.put
+
+pub returns-in-Some-clause-put : goal.returns-in-Some-clause-put
+returns-in-Some-clause-put c = up-some c.in-Some.ensures.value c.pid.ensures.put

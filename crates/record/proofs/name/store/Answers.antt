@@ -1,6 +1,6 @@
 -- `record::name::store` meets its contract: the name's part lies within the bytes, and the stores are those of the name.
 use Rattle.std.specs.Prelude.{refl}
-use Rattle.std.proofs.Common.{arith, rules}
+use Rattle.std.proofs.Common.{rules}
 use Rattle.record.specs.Loads.{name-end}
 use Rattle.record.specs.Stores.{name-stored}
 use Rattle.record.proofs.name.store.Goals as goal
@@ -11,4 +11,4 @@ slice_bounds-copy_from_slice-end c = search (name-end c.args.s.now.sizes c.args.
 pub returns-clause-stored : goal.returns-clause-stored
 returns-clause-stored c =
     name-stored c.args.text c.requires c.args.s.now.long c.name_at-at.ensures.value (search rules) (rw c.copy_from_slice.ensures.after refl)
-    (λ k. omega (arith, c.slice_known-1.given k))
+    (search rules)

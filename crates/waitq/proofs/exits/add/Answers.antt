@@ -1,26 +1,28 @@
 -- `waitq::exits::add` meets its contract: by its law of specs/AddCode.antt.
-use Rattle.std.specs.Prelude.{refl}
-use Rattle.waitq.specs.AddCode.{add_words, add-some, add_use, add-write, add_push, added}
+use Rattle.waitq.specs.AddCode.{add_words, add_use, add-write, add_push, added}
 use Rattle.waitq.proofs.exits.add.Goals as goal
 
-pub find_cell-link-requires : goal.find_cell-link-requires
-find_cell-link-requires c = rw c.view.ensures.bytes (add_words c.requires)
-
-pub overflow_sub-c : goal.overflow_sub-c
-overflow_sub-c c = add-some c.requires (rw c.view.ensures.bytes at c.find_cell-link.ensures)
+pub find_cell-requires : goal.find_cell-requires
+find_cell-requires c = rw (c.view.ensures.bytes, c.view.ensures.sizes) (add_words c.requires)
 
 pub use_cell-requires : goal.use_cell-requires
-use_cell-requires c = add_use c.requires (rw c.view.ensures.bytes at c.find_cell-link.ensures) refl
+use_cell-requires c = add_use c.requires (rw (c.view.ensures.bytes, c.view.ensures.sizes) at c.in-Some.ensures)
 
 pub write_message-length-requires : goal.write_message-length-requires
-write_message-length-requires c = add-write c.requires (rw c.view.ensures.bytes at c.find_cell-link.ensures) refl c.use_cell.ensures
+write_message-length-requires c =
+    rw c.use_cell.ensures.same.sizes
+    (add-write c.requires (rw (c.view.ensures.bytes, c.view.ensures.sizes) at c.in-Some.ensures) c.use_cell.ensures.done)
 
 pub push-requires : goal.push-requires
 push-requires c =
-    rw c.write_message-length.ensures.same.sizes
-    (add_push c.requires (rw c.view.ensures.bytes at c.find_cell-link.ensures) refl c.use_cell.ensures c.write_message-length.ensures.written c.write_message-length.ensures.written.within)
+    let k = c.use_cell.ensures.same.sizes in
+    let w = rw k at c.write_message-length.ensures.written in
+    rw (c.write_message-length.ensures.same.sizes, k)
+    (add_push c.requires (rw (c.view.ensures.bytes, c.view.ensures.sizes) at c.in-Some.ensures) c.use_cell.ensures.done w w.within)
 
 pub returns-clause-added : goal.returns-clause-added
 returns-clause-added c =
-    added c.requires (rw c.view.ensures.bytes at c.find_cell-link.ensures) refl c.use_cell.ensures c.write_message-length.ensures.written
-    (rw c.write_message-length.ensures.same.sizes at c.push.ensures.pushed)
+    let k = c.use_cell.ensures.same.sizes in
+    added c.requires (rw (c.view.ensures.bytes, c.view.ensures.sizes) at c.in-Some.ensures) c.use_cell.ensures.done
+    (rw k at c.write_message-length.ensures.written)
+    (rw (c.write_message-length.ensures.same.sizes, k) at c.push.ensures.pushed)

@@ -13,7 +13,7 @@ pub drop_cell-requires : goal.drop_cell-requires
 drop_cell-requires c = take-mark c.requires c.in_ok-c.ensures.value
 
 pub pop-requires : goal.pop-requires
-pop-requires c = take-pop c.requires c.drop_cell.ensures
+pop-requires c = rw c.drop_cell.ensures.same.sizes (take-pop c.requires c.drop_cell.ensures.done)
 
 pub returns-clause-taken : goal.returns-clause-taken
-returns-clause-taken c = take-off c.requires c.in_ok-c.ensures.value c.drop_cell.ensures c.pop.ensures.popped
+returns-clause-taken c = take-off c.requires c.in_ok-c.ensures.value c.drop_cell.ensures.done (rw c.drop_cell.ensures.same.sizes at c.pop.ensures.popped)

@@ -1,0 +1,60 @@
+-- `proc::take_call` meets its contract: each need by its law.
+use Rattle.proc.specs.Arms.{call-canqlock, call-clock, call-cond, call-due, call-exit, call-intr, call-name, call-qlock, call-qunlock, call-rfork, call-sched, call-sleep, call-start, call-tadd, call-tdel, call-tsleep, call-wait, call-wakeup, call-yield}
+use Rattle.proc.proofs.take_call.Goals as goal
+
+pub returns-in-Start-clause-done : goal.returns-in-Start-clause-done
+returns-in-Start-clause-done c = search call-start
+
+pub returns-in-Rfork-clause-done : goal.returns-in-Rfork-clause-done
+returns-in-Rfork-clause-done c = search call-rfork
+
+pub returns-in-Name-clause-done : goal.returns-in-Name-clause-done
+returns-in-Name-clause-done c = search call-name
+
+pub returns-in-Sched-clause-done : goal.returns-in-Sched-clause-done
+returns-in-Sched-clause-done c = search call-sched
+
+pub returns-in-Yield-clause-done : goal.returns-in-Yield-clause-done
+returns-in-Yield-clause-done c = search call-yield
+
+pub returns-in-Sleep-clause-done : goal.returns-in-Sleep-clause-done
+returns-in-Sleep-clause-done c = search call-sleep
+
+pub returns-in-Tsleep-clause-done : goal.returns-in-Tsleep-clause-done
+returns-in-Tsleep-clause-done c = search call-tsleep
+
+pub returns-in-Wakeup-clause-done : goal.returns-in-Wakeup-clause-done
+returns-in-Wakeup-clause-done c = search call-wakeup
+
+pub returns-in-Qlock-clause-done : goal.returns-in-Qlock-clause-done
+returns-in-Qlock-clause-done c = search call-qlock
+
+pub returns-in-Canqlock-clause-done : goal.returns-in-Canqlock-clause-done
+returns-in-Canqlock-clause-done c = search call-canqlock
+
+pub returns-in-Qunlock-clause-done : goal.returns-in-Qunlock-clause-done
+returns-in-Qunlock-clause-done c = search call-qunlock
+
+pub returns-in-Cond-clause-done : goal.returns-in-Cond-clause-done
+returns-in-Cond-clause-done c = search call-cond
+
+pub returns-in-Clock-clause-done : goal.returns-in-Clock-clause-done
+returns-in-Clock-clause-done c = search call-clock
+
+pub returns-in-Tadd-clause-done : goal.returns-in-Tadd-clause-done
+returns-in-Tadd-clause-done c = search call-tadd
+
+pub returns-in-Tdel-clause-done : goal.returns-in-Tdel-clause-done
+returns-in-Tdel-clause-done c = search call-tdel
+
+pub returns-in-Intr-clause-done : goal.returns-in-Intr-clause-done
+returns-in-Intr-clause-done c = search call-intr
+
+pub returns-in-Due-clause-done : goal.returns-in-Due-clause-done
+returns-in-Due-clause-done c = call-due c.requires c.in-Due.is (rw (c.view.ensures.bytes, c.view.ensures.sizes) at c.due.ensures)
+
+pub returns-in-Exit-clause-done : goal.returns-in-Exit-clause-done
+returns-in-Exit-clause-done c = search call-exit
+
+pub returns-in-Wait-clause-done : goal.returns-in-Wait-clause-done
+returns-in-Wait-clause-done c = search call-wait

@@ -1,6 +1,0 @@
--- `proc_fork::bad` meets its contract: each need by its law.
-use Rattle.proc_fork.specs.Flags.{bad-is}
-use Rattle.proc_fork.proofs.bad.Goals as goal
-
-pub returns : goal.returns
-returns c = search bad-is

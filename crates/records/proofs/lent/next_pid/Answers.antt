@@ -1,6 +1,0 @@
--- `records::lent::next_pid` meets its contract: each need by its law.
-use Rattle.records.specs.Pid.{pid-taken}
-use Rattle.records.proofs.lent.next_pid.Goals as goal
-
-pub returns-clause-done : goal.returns-clause-done
-returns-clause-done c = search pid-taken
