@@ -82,7 +82,8 @@ fn fire(s: &mut State, t: Index)
 }
 
 // Fires the head of the queue while it is due, and counts the firings.
-pub fn interrupt(s: &mut State, reading: u64) -> u64
+#[inline(always)]
+fn fire_due(s: &mut State, reading: u64) -> u64
     requires { DueAsks s.old.sizes s.old.bytes.now reading }
     ensures same { Same s.old s.new }
     ensures done { Interrupted s.old.sizes s.old.bytes.now s.new.bytes.now reading result }
@@ -93,6 +94,17 @@ pub fn interrupt(s: &mut State, reading: u64) -> u64
         fired += 1;
     }
     fired
+}
+
+// Fires the head of the queue while it is due, and counts the firings.
+pub fn interrupt(s: &mut State, reading: u64) -> u64
+    requires { DueAsks s.old.sizes s.old.bytes.now reading }
+    ensures same { Same s.old s.new }
+    ensures done { Interrupted s.old.sizes s.old.bytes.now s.new.bytes.now reading result }
+{
+    let sizes = s.sizes;
+    let bytes = &mut *s.bytes;
+    fire_due(&mut State { bytes, sizes }, reading)
 }
 
 // An interrupt at a reading of the clock, which is not before the last one.

@@ -85,6 +85,9 @@ pub fn begin(s: &mut State, p: Proc)
     ensures same { Same s.old s.new }
     ensures done { Begun s.old.sizes s.old.bytes.now s.new.bytes.now p }
 {
+    let sizes = s.sizes;
+    let bytes = &mut *s.bytes;
+    let s = &mut State { bytes, sizes };
     let Some(i) = records::alloc(s, p) else {
         unreachable!()
     };

@@ -77,6 +77,9 @@ fn add_after(s: &mut State, t: Index, at: Deadline)
     ensures same { Same s.old s.new }
     ensures done { AddedAfter s.old.sizes s.old.bytes.now s.new.bytes.now t at.reading at.counts }
 {
+    let sizes = s.sizes;
+    let bytes = &mut *s.bytes;
+    let s = &mut State { bytes, sizes };
     clockwork::time::set_now(s, at.reading);
     timer::by_deadline::add(s, t, at.reading + at.counts);
 }

@@ -1,7 +1,8 @@
 -- The message of a cell, copied to the front of a buffer.
-use Rattle.std.specs.Prelude.{◌≡◌, List, ◌++◌, ℕ, ◌+◌, ◌*◌, ◌≤◌, ◌<◌, length, get_or, take, drop, ◌-◌}
-use Rattle.std.proofs.Common.{sym, ap, ◌∙◌, arith, lit<, length-drop, length-take-le, get_or-take, get_or-drop}
+use Rattle.std.specs.Prelude.{◌≡◌, List, ◌++◌, ℕ, ◌+◌, ◌*◌, ◌≤◌, ◌<◌, length, get_or, set, take, drop, ◌-◌}
+use Rattle.std.proofs.Common.{sym, ap, ◌∙◌, arith, add-one, lit<, length-drop, length-take-le, get_or-take, get_or-drop}
 use Rattle.std.proofs.lemmas.List.{ext_get_or}
+use Rattle.message.specs.Cut.{copy_step}
 use Rattle.memory.specs.Le.{le, le-one}
 use Rattle.layout.specs.Table.{slot}
 use Rattle.layout.specs.Memory.{Reach, reach-end, cell_in_lem}
@@ -42,6 +43,21 @@ message_byte_lem z s c j i l =
     ∙ ap (λ (k : ℕ). le 1 s k) (omega arith)
     ∙ cell_in_lem fields.layout1 (fields.counts (sizes_in z)) s (slot 7 0 1) (127 * c + j) (omega (arith, i))
 
+-- As it goes: one byte more.
+pub copy-more
+    : (s b₀ : List ℕ) {b b' : List ℕ} (at j : ℕ)
+    → b ≡ take j (drop at s) ++ drop j b₀
+    → at + j < length s
+    → j < length b₀
+    → b' ≡ set b j (get_or s (at + j) 0)
+    → b' ≡ take (j + 1) (drop at s) ++ drop (j + 1) b₀
+copy-more s b₀ at j e h l d =
+    rw add-one
+    (d
+    ∙ ap (λ (x : List ℕ). set x j (get_or s (at + j) 0)) e
+    ∙ ap (λ (x : ℕ). set (take j (drop at s) ++ drop j b₀) j x) (sym (get_or-drop at s j 0))
+    ∙ copy_step j (drop at s) b₀ (omega (arith, length-drop at s)) l)
+
 -- The copy reads inside the bytes, and writes inside the buffer.
 pub copy-fits : {z : Sizes} {s : List ℕ} {c at : ℕ} {b : List ℕ} → CopyAsks z s c b → at ≡ start_in z 7 + c * 127 → at + 127 ≤ length s
 copy-fits {z} a e = omega (arith, e, reach-end (byte-reach {z = z} 126 a (lit< tt)))
@@ -76,3 +92,16 @@ copied {z} {s} {c} {at} {n} {b} a e d =
           ∙ ap (λ (k : ℕ). table k (λ m. mem_in z s fields.message_byte (127 * c + m)) ++ drop k b) d;
       within = h;
     }
+
+-- All of them, where as many are copied as the message has.
+pub copied-all
+    : {z : Sizes} {s : List ℕ} {c at n j : ℕ} {b b' : List ℕ}
+    → CopyAsks z s c b
+    → at ≡ start_in z 7 + c * 127
+    → n ≡ mem_in z s fields.message_length c
+    → b' ≡ take j (drop at s) ++ drop j b
+    → j ≡ n
+    → Copied z s c b b' n
+copied-all {z} {s} {c} {at} {n} {j} {b} {b'} a e d w k =
+    let x : at + n - at ≡ n = omega arith in
+    rw (w, k) (rw x at (copied a e d))

@@ -22,7 +22,9 @@ pub fn copy_message(v: &View, c: Index, buffer: &mut [u8]) -> u8
     let at = v.sizes.message_at(c);
     let length = v.get(field::MESSAGE_LENGTH, c);
     let n = usize::from(length);
-    buffer[..n].copy_from_slice(&v.bytes[at..at + n]);
+    for j in 0..n {
+        buffer[j] = v.bytes[at + j];
+    }
     length
 }
 

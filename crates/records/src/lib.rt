@@ -70,6 +70,9 @@ pub fn alloc(s: &mut State, p: Proc) -> Option<Index>
     ensures same { Same s.old s.new }
     ensures done { Allocated s.old.sizes s.old.bytes.now s.new.bytes.now p (link result) }
 {
+    let sizes = s.sizes;
+    let bytes = &mut *s.bytes;
+    let s = &mut State { bytes, sizes };
     let i = free::find_record(&s.view())?;
     let pid = next_pid(s);
     occupy(s, i, p, pid);
@@ -82,6 +85,9 @@ pub fn release(s: &mut State, i: Index)
     ensures same { Same s.old s.new }
     ensures done { Released s.old.sizes s.old.bytes.now s.new.bytes.now i }
 {
+    let sizes = s.sizes;
+    let bytes = &mut *s.bytes;
+    let s = &mut State { bytes, sizes };
     ages::age_out(s, i);
     free::drop_record(s, i);
     s.set(field::PID, i, 0);

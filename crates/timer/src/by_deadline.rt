@@ -14,6 +14,7 @@ ghost use Rattle.timer.specs.Only.{Owing};
 use state::{Index, Link, State, View, field};
 
 // Takes timer `t` off the queue, if it is queued.
+#[inline(always)]
 pub fn del(s: &mut State, t: Index)
     requires { TimerAsks s.old.sizes s.old.bytes.now t }
     ensures same { Same s.old s.new }
@@ -23,6 +24,7 @@ pub fn del(s: &mut State, t: Index)
 }
 
 // Queues timer `t`, which is off the queue, by its deadline.
+#[inline(always)]
 fn enqueue(s: &mut State, t: Index, deadline: u64)
     requires { QueueAsks s.old.sizes s.old.bytes.now t }
     ensures same { Same s.old s.new }
@@ -37,11 +39,15 @@ pub fn add(s: &mut State, t: Index, deadline: u64)
     ensures same { Same s.old s.new }
     ensures added { Added s.old.sizes s.old.bytes.now s.new.bytes.now t deadline }
 {
+    let sizes = s.sizes;
+    let bytes = &mut *s.bytes;
+    let s = &mut State { bytes, sizes };
     del(s, t);
     enqueue(s, t, deadline);
 }
 
 // Takes timer `t`, the head, off the queue.
+#[inline(always)]
 fn pop(s: &mut State, t: Index)
     requires { PopAsks s.old.sizes s.old.bytes.now t }
     ensures same { Same s.old s.new }
@@ -51,6 +57,7 @@ fn pop(s: &mut State, t: Index)
 }
 
 // Takes the head off the queue where its deadline is at or before a reading of the clock: the timer that was the head.
+#[inline(always)]
 pub fn pop_due(s: &mut State, reading: u64) -> Link
     requires { Owing s.old.sizes s.old.bytes.now }
     ensures same { Same s.old s.new }
@@ -65,6 +72,7 @@ pub fn pop_due(s: &mut State, reading: u64) -> Link
 }
 
 // Queues timer `t`, which fired, at its deadline plus its period. A timer without a period, as a process's own, stays off the queue.
+#[inline(always)]
 pub fn readd(s: &mut State, t: Index)
     requires { ReaddAsks s.old.sizes s.old.bytes.now t }
     ensures same { Same s.old s.new }

@@ -165,11 +165,15 @@ fn set_queued(s: &mut State, t: Index, queued: bool)
 }
 
 // Queues timer `t` by its deadline, after any timer with the same.
+#[inline(always)]
 pub fn insert(s: &mut State, t: Index, deadline: u64)
     requires { InsertAsks s.old.sizes s.old.bytes.now t }
     ensures same { Same s.old s.new }
     ensures inserted { Inserted s.old.sizes s.old.bytes.now s.new.bytes.now t deadline }
 {
+    let sizes = s.sizes;
+    let bytes = &mut *s.bytes;
+    let s = &mut State { bytes, sizes };
     let at = find_before(&s.view(), deadline);
     link_in(s, at, t);
     s.set(field::DEADLINE, t, deadline);
@@ -223,6 +227,7 @@ fn link_out(s: &mut State, at: Link, t: Index)
 }
 
 // Takes timer `t` off the queue, from behind the link `at`, none for the front.
+#[inline(always)]
 pub fn take_out(s: &mut State, at: Link, t: Index)
     requires { LinkAsks s.old.sizes s.old.bytes.now (link at) t }
     ensures same { Same s.old s.new }
@@ -233,11 +238,15 @@ pub fn take_out(s: &mut State, at: Link, t: Index)
 }
 
 // Takes timer `t` off the queue, if it is queued.
+#[inline(always)]
 pub fn remove(s: &mut State, t: Index)
     requires { RemoveAsks s.old.sizes s.old.bytes.now t }
     ensures same { Same s.old s.new }
     ensures removed { Removed s.old.sizes s.old.bytes.now s.new.bytes.now t }
 {
+    let sizes = s.sizes;
+    let bytes = &mut *s.bytes;
+    let s = &mut State { bytes, sizes };
     let v = s.view();
     if !is_queued(&v, t) {
         return;

@@ -102,6 +102,9 @@ pub fn take(s: &mut State, i: Index) -> Link
     ensures same { Same s.old s.new }
     ensures taken { TakeDone s.old.sizes s.old.bytes.now s.new.bytes.now i (link result) }
 {
+    let sizes = s.sizes;
+    let bytes = &mut *s.bytes;
+    let s = &mut State { bytes, sizes };
     let c = s.get(field::EXITS, i)?;
     free::drop_cell(s, c);
     pop(s, i)
@@ -139,6 +142,9 @@ pub fn add(s: &mut State, i: Index, pid: u64, name: [u8; 28], status: &[u8])
     ensures same { Same s.old s.new }
     ensures added { AddDone s.old.sizes s.old.bytes.now s.new.bytes.now i pid name status.now }
 {
+    let sizes = s.sizes;
+    let bytes = &mut *s.bytes;
+    let s = &mut State { bytes, sizes };
     let Some(c) = free::find_cell(&s.view()) else {
         unreachable!()
     };

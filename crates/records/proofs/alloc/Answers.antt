@@ -1,4 +1,5 @@
 -- `records::alloc` meets its contract: each need by its law.
+use Rattle.std.proofs.Common.{rules}
 use Rattle.std.specs.Prelude.{refl}
 use Rattle.records.specs.Alloc.{alloc-occupy, alloc_find, alloc-none, alloc-one}
 use Rattle.records.proofs.alloc.Goals as goal
@@ -8,7 +9,8 @@ find_record-requires c = rw (c.view.ensures.bytes, c.view.ensures.sizes) (alloc_
 
 pub returns-in_err-i-clause-done : goal.returns-in_err-i-clause-done
 returns-in_err-i-clause-done c =
-    rw c.from_residual.ensures (alloc-none c.requires (rw (c.view.ensures.bytes, c.view.ensures.sizes) at c.in_err-i.ensures) refl)
+    rw c.from_residual.ensures
+    (let done = alloc-none c.requires (rw (c.view.ensures.bytes, c.view.ensures.sizes) at c.in_err-i.ensures) refl in search rules)
 
 pub occupy-requires : goal.occupy-requires
 occupy-requires c =
@@ -17,5 +19,7 @@ occupy-requires c =
 
 pub returns-clause-done : goal.returns-clause-done
 returns-clause-done c =
-    alloc-one c.requires (rw (c.view.ensures.bytes, c.view.ensures.sizes) at c.in_ok-i.ensures) c.next_pid-pid.ensures.done
-    (rw c.next_pid-pid.ensures.same.sizes at c.occupy.ensures.done)
+    let done =
+        alloc-one c.requires (rw (c.view.ensures.bytes, c.view.ensures.sizes) at c.in_ok-i.ensures) c.next_pid-pid.ensures.done
+        (rw c.next_pid-pid.ensures.same.sizes at c.occupy.ensures.done)
+    in search rules

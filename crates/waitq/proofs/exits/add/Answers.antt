@@ -1,4 +1,5 @@
 -- `waitq::exits::add` meets its contract: by its law of specs/AddCode.antt.
+use Rattle.std.proofs.Common.{rules}
 use Rattle.waitq.specs.AddCode.{add_words, add_use, add-write, add_push, added}
 use Rattle.waitq.proofs.exits.add.Goals as goal
 
@@ -22,7 +23,9 @@ push-requires c =
 
 pub returns-clause-added : goal.returns-clause-added
 returns-clause-added c =
-    let k = c.use_cell.ensures.same.sizes in
-    added c.requires (rw (c.view.ensures.bytes, c.view.ensures.sizes) at c.in-Some.ensures) c.use_cell.ensures.done
-    (rw k at c.write_message-length.ensures.written)
-    (rw (c.write_message-length.ensures.same.sizes, k) at c.push.ensures.pushed)
+    let done =
+        let k = c.use_cell.ensures.same.sizes in
+        added c.requires (rw (c.view.ensures.bytes, c.view.ensures.sizes) at c.in-Some.ensures) c.use_cell.ensures.done
+        (rw k at c.write_message-length.ensures.written)
+        (rw (c.write_message-length.ensures.same.sizes, k) at c.push.ensures.pushed)
+    in search rules

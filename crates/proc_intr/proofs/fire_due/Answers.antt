@@ -1,10 +1,10 @@
--- `proc_intr::interrupt` meets its contract: a turn takes the head off and fires it.
+-- `proc_intr::fire_due` meets its contract: a turn takes the head off and fires it.
 use Rattle.std.specs.Prelude.{refl}
 use Rattle.std.proofs.Common.{arith}
 use Rattle.state.specs.Sets.{same_join}
 use Rattle.proc_intr.specs.Interrupt.{int_start, int_less, int_room, int_step, int_end}
 use Rattle.proc_intr.specs.Turn.{turn-fire, turn-fired, turn-none}
-use Rattle.proc_intr.proofs.interrupt.Goals as goal
+use Rattle.proc_intr.proofs.fire_due.Goals as goal
 
 pub loop-t-init : goal.loop-t-init
 loop-t-init c = (record { sizes = refl; lender = refl }, int_start c.requires)
