@@ -65,33 +65,33 @@ module _ {z : Sizes} {s s' : List ℕ} {k : Bool} {c : Call} {m : List ℕ} {r :
   unfolding body_of tells
   call-tsleep e t = as_step e (taken-plain a.room refl t)
 
-  pub call-wakeup : {R : ℕ} → c ≡ Wakeup R → Took z s s' (wakeup R) r → CallTook z s s' k c m m r
+  pub call-wakeup : {R : ℕ} → c ≡ Wakeup R → Plain z s s' k (wakeup R) r → CallTook z s s' k c m m r
   unfolding body_of tells
-  call-wakeup e t = as_step e (taken-plain a.room refl (took-plain t))
+  call-wakeup e t = as_step e (taken-plain a.room refl t)
 
   pub call-qlock : {q : ℕ} → c ≡ Qlock q → Plain z s s' k (qlock q) r → CallTook z s s' k c m m r
   unfolding body_of tells
   call-qlock e t = as_step e (taken-plain a.room refl t)
 
-  pub call-canqlock : {q : ℕ} → c ≡ Canqlock q → Took z s s' (canqlock q) r → CallTook z s s' k c m m r
+  pub call-canqlock : {q : ℕ} → c ≡ Canqlock q → Plain z s s' k (canqlock q) r → CallTook z s s' k c m m r
   unfolding body_of tells
-  call-canqlock e t = as_step e (taken-plain a.room refl (took-plain t))
+  call-canqlock e t = as_step e (taken-plain a.room refl t)
 
-  pub call-qunlock : {q : ℕ} → c ≡ Qunlock q → Took z s s' (qunlock q) r → CallTook z s s' k c m m r
+  pub call-qunlock : {q : ℕ} → c ≡ Qunlock q → Plain z s s' k (qunlock q) r → CallTook z s s' k c m m r
   unfolding body_of tells
-  call-qunlock e t = as_step e (taken-plain a.room refl (took-plain t))
+  call-qunlock e t = as_step e (taken-plain a.room refl t)
 
-  pub call-cond : {C v : ℕ} → c ≡ Cond C v → Took z s s' (cond C v) r → CallTook z s s' k c m m r
+  pub call-cond : {C v : ℕ} → c ≡ Cond C v → Plain z s s' k (cond C v) r → CallTook z s s' k c m m r
   unfolding body_of tells
-  call-cond e t = as_step e (taken-plain a.room refl (took-plain t))
+  call-cond e t = as_step e (taken-plain a.room refl t)
 
-  pub call-tadd : {f : TaddFields} → c ≡ Tadd f → Took z s s' (tadd_of f) r → CallTook z s s' k c m m r
+  pub call-tadd : {f : TaddFields} → c ≡ Tadd f → Plain z s s' k (tadd_of f) r → CallTook z s s' k c m m r
   unfolding body_of tells
-  call-tadd e t = as_step e (taken-plain a.room refl (took-plain t))
+  call-tadd e t = as_step e (taken-plain a.room refl t)
 
-  pub call-tdel : {i : ℕ} → c ≡ Tdel i → Took z s s' (tdel i) r → CallTook z s s' k c m m r
+  pub call-tdel : {i : ℕ} → c ≡ Tdel i → Plain z s s' k (tdel i) r → CallTook z s s' k c m m r
   unfolding body_of tells
-  call-tdel e t = as_step e (taken-plain a.room refl (took-plain t))
+  call-tdel e t = as_step e (taken-plain a.room refl t)
 
   pub call-clock : {NOW : ℕ} → c ≡ Clock NOW → Took z s s' (clock NOW) r → CallTook z s s' k c m m r
   unfolding body_of tells

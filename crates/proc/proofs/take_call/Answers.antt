@@ -1,5 +1,6 @@
 -- `proc::take_call` meets its contract: each need by its law.
 use Rattle.proc.specs.Arms.{call-canqlock, call-clock, call-cond, call-due, call-exit, call-intr, call-name, call-qlock, call-qunlock, call-rfork, call-sched, call-sleep, call-start, call-tadd, call-tdel, call-tsleep, call-wait, call-wakeup, call-yield}
+use Rattle.proc.specs.Plain.{took-plain}
 use Rattle.proc.proofs.take_call.Goals as goal
 
 pub returns-in-Start-clause-done : goal.returns-in-Start-clause-done
@@ -24,28 +25,28 @@ pub returns-in-Tsleep-clause-done : goal.returns-in-Tsleep-clause-done
 returns-in-Tsleep-clause-done c = search call-tsleep
 
 pub returns-in-Wakeup-clause-done : goal.returns-in-Wakeup-clause-done
-returns-in-Wakeup-clause-done c = search call-wakeup
+returns-in-Wakeup-clause-done c = search (call-wakeup, took-plain)
 
 pub returns-in-Qlock-clause-done : goal.returns-in-Qlock-clause-done
 returns-in-Qlock-clause-done c = search call-qlock
 
 pub returns-in-Canqlock-clause-done : goal.returns-in-Canqlock-clause-done
-returns-in-Canqlock-clause-done c = search call-canqlock
+returns-in-Canqlock-clause-done c = search (call-canqlock, took-plain)
 
 pub returns-in-Qunlock-clause-done : goal.returns-in-Qunlock-clause-done
-returns-in-Qunlock-clause-done c = search call-qunlock
+returns-in-Qunlock-clause-done c = search (call-qunlock, took-plain)
 
 pub returns-in-Cond-clause-done : goal.returns-in-Cond-clause-done
-returns-in-Cond-clause-done c = search call-cond
+returns-in-Cond-clause-done c = search (call-cond, took-plain)
 
 pub returns-in-Clock-clause-done : goal.returns-in-Clock-clause-done
 returns-in-Clock-clause-done c = search call-clock
 
 pub returns-in-Tadd-clause-done : goal.returns-in-Tadd-clause-done
-returns-in-Tadd-clause-done c = search call-tadd
+returns-in-Tadd-clause-done c = search (call-tadd, took-plain)
 
 pub returns-in-Tdel-clause-done : goal.returns-in-Tdel-clause-done
-returns-in-Tdel-clause-done c = search call-tdel
+returns-in-Tdel-clause-done c = search (call-tdel, took-plain)
 
 pub returns-in-Intr-clause-done : goal.returns-in-Intr-clause-done
 returns-in-Intr-clause-done c = search call-intr
