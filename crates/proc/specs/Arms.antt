@@ -14,7 +14,7 @@ use Rattle.decode.specs.declared.TaddFields.{TaddFields}
 use Rattle.decode.specs.declared.Call.{Call}
 use Rattle.decode.specs.declared.Call.TheVariants.{Start, Rfork, Name, Sched, Yield, Sleep, Tsleep, Wakeup, Qlock, Canqlock, Qunlock, Cond, Clock, Tadd, Tdel, Intr, Due, Exit, Wait}
 use Rattle.decode.specs.declared.Decoded.{Decoded}
-use Rattle.decode.specs.Means.{tsleep_of, tadd_of, body_of}
+use Rattle.decode.specs.Means.{tsleep_of, tadd_of, body_of, step_of}
 use Rattle.decode.specs.Decodes.{Decodes, is-step, is_none}
 use Rattle.outcome.specs.declared.Reply.{Reply}
 use Rattle.outcome.specs.declared.Refusal.{Refusal}
@@ -125,7 +125,36 @@ module _ {z : Sizes} {s s' : List ℕ} {k : Bool} {c : Call} {m : List ℕ} {r :
   unfolding body_of
   call-wait e t = as_step e (taken-step a.room t.stepped t.long t.buffer)
 
+-- No call was read, or one with its mark: what was read is taken as the step that it stands for.
+pub call_none
+    : {z : Sizes} {s m : List ℕ} {o : Option Decoded} → CallAsks z s m → o ≡ None → Taken z s s (step_of o) m m (Err NoSuchStep)
+unfolding step_of
+call_none {z} {s} {m} a e = subst (λ (x : Option Decoded). Taken z s s (step_of x) m m (Err NoSuchStep)) (sym e) (taken_none a.well)
+
+pub call_some
+    : {z : Sizes} {s s' m m' : List ℕ} {o : Option Decoded} {d : Decoded} {r : Result Reply Refusal}
+    → o ≡ Some d
+    → CallTook z s s' d.marked d.call m m' r
+    → Taken z s s' (step_of o) m m' r
+unfolding step_of
+call_some {z} {s} {s'} {m} {m'} {r = r} e t = subst (λ (x : Option Decoded). Taken z s s' (step_of x) m m' r) (sym e) t.taken
+
+pub some-call
+    : {z : Sizes} {s s' m m' : List ℕ} {o : Option Decoded} {d : Decoded} {r : Result Reply Refusal}
+    → o ≡ Some d
+    → Taken z s s' (step_of o) m m' r
+    → CallTook z s s' d.marked d.call m m' r
+unfolding step_of
+some-call {z} {s} {s'} {m} {m'} {r = r} e t = record { taken = subst (λ (x : Option Decoded). Taken z s s' (step_of x) m m' r) e t }
+
 -- The call is what was read from the bytes.
+pub take-read
+    : {z : Sizes} {s s' b m m' : List ℕ} {o : Option Decoded} {r : Result Reply Refusal}
+    → Decodes b o
+    → Taken z s s' (step_of o) m m' r
+    → Taken z s s' (decode b) m m' r
+take-read {z} {s} {s'} {m = m} {m'} {r = r} h t = subst (λ (x : math.Option Step). Taken z s s' x m m' r) h.step t
+
 pub take-took
     : {z : Sizes} {s s' b m m' : List ℕ} {o : Option Decoded} {d : Decoded} {r : Result Reply Refusal}
     → Decodes b o
