@@ -1,9 +1,10 @@
 -- What the code shows: that its sums fit, and at each return the equation with the definition that the contract cites.
-use Rattle.std.specs.Prelude.{ℕ, ◌+◌, ◌-◌, ◌*◌, ◌^◌, ◌≤◌, ◌<◌, ◌≡◌, refl, Bool, true, false, leb, ltb, eqb, min}
-use Rattle.std.proofs.Common.{sym, ◌∙◌, arith, ltb-true, ltb-false, lt-ltb, le-ltb, le-leb, eqb-true, eq-eqb, ne_eqb}
-use Rattle.std.specs.Int.{div_ceil}
+use Rattle.std.specs.Prelude.{ℕ, ◌+◌, ◌-◌, ◌*◌, ◌/◌, ◌^◌, ◌≤◌, ◌<◌, ◌≡◌, refl, Bool, true, false, leb, ltb, eqb, min}
+use Rattle.std.proofs.Common.{zero-le, sym, ◌∙◌, le_refl, sub-le, mul-le-mul, le-div_iff_mul-le, pos_of_ne-zero, Fits, arith, lit≤, ltb-true, ltb-false, lt-ltb, le-ltb, le-leb, eqb-true, eq-eqb, ne_eqb}
+use Rattle.std.proofs.Math.Nat.{le-pred_of_lt}
+use Rattle.std.specs.Int.{w64, div_ceil}
 use Rattle.std.proofs.lemmas.Bool.{eqb-false}
-use Rattle.clock.specs.Counts.{nanos_of, counts_of, zero_duration, shorter}
+use Rattle.clock.specs.Counts.{ceil_div, nanos_of, counts_of, zero_duration, shorter}
 use Rattle.clock.specs.Laws.{counts-split}
 
 -- two tests agree where the numbers that they compare stand in the same order
@@ -47,6 +48,41 @@ pub longer_near : (s n s' n' : ℕ) → s' < s → ltb ((s - s') * 1000000000 + 
 unfolding shorter nanos_of
 longer_near s n s' n' h =
     same_test ((s - s') * 1000000000 + n) n' (s * 1000000000 + n) (s' * 1000000000 + n') (λ l. omega arith) (λ l. omega arith)
+
+-- hz and the nanoseconds n, of 32 bits each, and a k of at most what rounds up
+module _ (hz n k : ℕ) (hz-fits : hz < 2 ^ 32) (n-fits : n < 2 ^ 32) (k-fits : k ≤ 999999999) where
+  -- the product leaves room in 64 bits
+  product_room : n * hz + k < 2 ^ 64
+  product_room = omega (arith, mul-le-mul {n₂ = 2 ^ 32 - 1} {m₂ = 2 ^ 32 - 1} (le-pred_of_lt n-fits) (le-pred_of_lt hz-fits))
+
+  -- so the sum fits
+  pub part_sum : Fits w64 (n * hz + k)
+  part_sum = record { fits = product_room }
+
+  -- and the nanoseconds' counts are within the limit
+  pub part_limit : (n * hz + k) / 1000000000 ≤ 2 ^ 64 - 1
+  part_limit = omega (arith, product_room)
+
+-- the product of two numbers of 32 bits fits
+pub part_product : (hz n : ℕ) → hz < 2 ^ 32 → n < 2 ^ 32 → Fits w64 (n * hz)
+part_product hz n p q = omega (arith, product_room hz n 0 p q zero-le)
+
+-- what the counts of the nanoseconds, rounded up, leave of the limit is the least that any rounding leaves
+pub part_room : (hz n k : ℕ) → k ≤ 999999999 → 2 ^ 64 - 1 - ceil_div (n * hz) 1000000000 ≤ 2 ^ 64 - 1 - (n * hz + k) / 1000000000
+part_room hz n k h = omega arith
+
+-- how a room stands to the limit and to what is left of it
+pub ruleset rooms = (tt, lit≤, le_refl, sub-le, part_limit, part_room)
+
+-- the seconds s, tested against the room for their counts ÷ hz
+module _ (hz s room : ℕ) (some : hz ≡ 0 → ⊥) where
+  -- the seconds' counts fit where they have room
+  pub secs_fit : s ≤ room / hz → room ≤ 2 ^ 64 - 1 → Fits w64 (s * hz)
+  secs_fit h r = omega (arith, (le-div_iff_mul-le (pos_of_ne-zero some)).0 h)
+
+  -- and p beside them, where the room leaves place for p
+  pub both_fit : (p : ℕ) → s ≤ room / hz → p ≤ 2 ^ 64 - 1 → room ≤ 2 ^ 64 - 1 - p → Fits w64 (s * hz + p)
+  both_fit p h q r = omega (arith, (le-div_iff_mul-le (pos_of_ne-zero some)).0 h)
 
 -- the counts of the seconds and those of the nanoseconds, rounded up, each and together at most the limit
 pub counts-capped : (hz s n : ℕ) → min (min (s * hz) (2 ^ 64 - 1) + div_ceil (n * hz) 1000000000) (2 ^ 64 - 1) ≡ counts_of hz s n

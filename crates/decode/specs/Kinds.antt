@@ -1,11 +1,20 @@
 -- The kind that the first byte names, and what the bytes are as a step of it.
-use Rattle.std.specs.Prelude.{if◌then◌else◌, ◌≡◌, refl, Bool, true, false, List, [], ◌∷◌, ℕ, ◌+◌, ◌*◌, eqb, length, get_or}
+use Rattle.std.specs.Prelude.{if◌then◌else◌, ◌≡◌, refl, Bool, true, false, ◌&&◌, List, [], ◌∷◌, ℕ, ◌+◌, ◌*◌, T, eqb, length, get_or}
 use Rattle.std.proofs.Common.{◌∙◌, arith, eq-eqb, ne_eqb, le-leb}
 use Rattle.std.proofs.Math.Option.{Option, none, some}
 use Rattle.memory.specs.Le.{le}
 use Rattle.machine.specs.Step.{Body, Form, Takes, takes_numbers, takes_bytes, Kind, kinds, fill}
 use Rattle.machine.specs.Bytes.{numbers_at, decode_form, decode_body}
 use Rattle.decode.specs.Fields.{IsString, NoString}
+
+-- Both of two tests pass.
+pub and_left : (a b : Bool) → T (a && b) → T a
+and_left true b t = tt
+and_left false b t = t
+
+pub and_right : (a b : Bool) → T (a && b) → T b
+and_right true b t = t
+and_right false b t = absurd t
 
 -- What fields the kind with number k has.
 unfoldable pub form_for : List Kind → ℕ → Option Form

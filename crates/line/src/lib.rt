@@ -43,7 +43,7 @@ pub fn take_step(s: &mut State, n: u64, b: &[u8], message: &mut [u8], out: &mut 
         out.line(n, Err(Refusal::NoSuchStep), message, &s.view());
         return;
     };
-    let reply = proc::take_call(s, step.marked, step.call, message);
+    let reply = proc::take_call(s, Some(step), message);
     match step.call {
         Call::Exit { status } => out.line(n, reply, status, &s.view()),
         _ => out.line(n, reply, message, &s.view()),

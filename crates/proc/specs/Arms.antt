@@ -14,7 +14,7 @@ use Rattle.decode.specs.declared.TaddFields.{TaddFields}
 use Rattle.decode.specs.declared.Call.{Call}
 use Rattle.decode.specs.declared.Call.TheVariants.{Start, Rfork, Name, Sched, Yield, Sleep, Tsleep, Wakeup, Qlock, Canqlock, Qunlock, Cond, Clock, Tadd, Tdel, Intr, Due, Exit, Wait}
 use Rattle.decode.specs.declared.Decoded.{Decoded}
-use Rattle.decode.specs.Means.{tsleep_of, tadd_of, body_of}
+use Rattle.decode.specs.Means.{tsleep_of, tadd_of, body_of, step_of}
 use Rattle.decode.specs.Decodes.{Decodes, is-step, is_none}
 use Rattle.outcome.specs.declared.Reply.{Reply}
 use Rattle.outcome.specs.declared.Refusal.{Refusal}
@@ -65,33 +65,33 @@ module _ {z : Sizes} {s s' : List ℕ} {k : Bool} {c : Call} {m : List ℕ} {r :
   unfolding body_of tells
   call-tsleep e t = as_step e (taken-plain a.room refl t)
 
-  pub call-wakeup : {R : ℕ} → c ≡ Wakeup R → Took z s s' (wakeup R) r → CallTook z s s' k c m m r
+  pub call-wakeup : {R : ℕ} → c ≡ Wakeup R → Plain z s s' k (wakeup R) r → CallTook z s s' k c m m r
   unfolding body_of tells
-  call-wakeup e t = as_step e (taken-plain a.room refl (took-plain t))
+  call-wakeup e t = as_step e (taken-plain a.room refl t)
 
   pub call-qlock : {q : ℕ} → c ≡ Qlock q → Plain z s s' k (qlock q) r → CallTook z s s' k c m m r
   unfolding body_of tells
   call-qlock e t = as_step e (taken-plain a.room refl t)
 
-  pub call-canqlock : {q : ℕ} → c ≡ Canqlock q → Took z s s' (canqlock q) r → CallTook z s s' k c m m r
+  pub call-canqlock : {q : ℕ} → c ≡ Canqlock q → Plain z s s' k (canqlock q) r → CallTook z s s' k c m m r
   unfolding body_of tells
-  call-canqlock e t = as_step e (taken-plain a.room refl (took-plain t))
+  call-canqlock e t = as_step e (taken-plain a.room refl t)
 
-  pub call-qunlock : {q : ℕ} → c ≡ Qunlock q → Took z s s' (qunlock q) r → CallTook z s s' k c m m r
+  pub call-qunlock : {q : ℕ} → c ≡ Qunlock q → Plain z s s' k (qunlock q) r → CallTook z s s' k c m m r
   unfolding body_of tells
-  call-qunlock e t = as_step e (taken-plain a.room refl (took-plain t))
+  call-qunlock e t = as_step e (taken-plain a.room refl t)
 
-  pub call-cond : {C v : ℕ} → c ≡ Cond C v → Took z s s' (cond C v) r → CallTook z s s' k c m m r
+  pub call-cond : {C v : ℕ} → c ≡ Cond C v → Plain z s s' k (cond C v) r → CallTook z s s' k c m m r
   unfolding body_of tells
-  call-cond e t = as_step e (taken-plain a.room refl (took-plain t))
+  call-cond e t = as_step e (taken-plain a.room refl t)
 
-  pub call-tadd : {f : TaddFields} → c ≡ Tadd f → Took z s s' (tadd_of f) r → CallTook z s s' k c m m r
+  pub call-tadd : {f : TaddFields} → c ≡ Tadd f → Plain z s s' k (tadd_of f) r → CallTook z s s' k c m m r
   unfolding body_of tells
-  call-tadd e t = as_step e (taken-plain a.room refl (took-plain t))
+  call-tadd e t = as_step e (taken-plain a.room refl t)
 
-  pub call-tdel : {i : ℕ} → c ≡ Tdel i → Took z s s' (tdel i) r → CallTook z s s' k c m m r
+  pub call-tdel : {i : ℕ} → c ≡ Tdel i → Plain z s s' k (tdel i) r → CallTook z s s' k c m m r
   unfolding body_of tells
-  call-tdel e t = as_step e (taken-plain a.room refl (took-plain t))
+  call-tdel e t = as_step e (taken-plain a.room refl t)
 
   pub call-clock : {NOW : ℕ} → c ≡ Clock NOW → Took z s s' (clock NOW) r → CallTook z s s' k c m m r
   unfolding body_of tells
@@ -125,7 +125,36 @@ module _ {z : Sizes} {s s' : List ℕ} {k : Bool} {c : Call} {m : List ℕ} {r :
   unfolding body_of
   call-wait e t = as_step e (taken-step a.room t.stepped t.long t.buffer)
 
+-- No call was read, or one with its mark: what was read is taken as the step that it stands for.
+pub call_none
+    : {z : Sizes} {s m : List ℕ} {o : Option Decoded} → CallAsks z s m → o ≡ None → Taken z s s (step_of o) m m (Err NoSuchStep)
+unfolding step_of
+call_none {z} {s} {m} a e = subst (λ (x : Option Decoded). Taken z s s (step_of x) m m (Err NoSuchStep)) (sym e) (taken_none a.well)
+
+pub call_some
+    : {z : Sizes} {s s' m m' : List ℕ} {o : Option Decoded} {d : Decoded} {r : Result Reply Refusal}
+    → o ≡ Some d
+    → CallTook z s s' d.marked d.call m m' r
+    → Taken z s s' (step_of o) m m' r
+unfolding step_of
+call_some {z} {s} {s'} {m} {m'} {r = r} e t = subst (λ (x : Option Decoded). Taken z s s' (step_of x) m m' r) (sym e) t.taken
+
+pub some-call
+    : {z : Sizes} {s s' m m' : List ℕ} {o : Option Decoded} {d : Decoded} {r : Result Reply Refusal}
+    → o ≡ Some d
+    → Taken z s s' (step_of o) m m' r
+    → CallTook z s s' d.marked d.call m m' r
+unfolding step_of
+some-call {z} {s} {s'} {m} {m'} {r = r} e t = record { taken = subst (λ (x : Option Decoded). Taken z s s' (step_of x) m m' r) e t }
+
 -- The call is what was read from the bytes.
+pub take-read
+    : {z : Sizes} {s s' b m m' : List ℕ} {o : Option Decoded} {r : Result Reply Refusal}
+    → Decodes b o
+    → Taken z s s' (step_of o) m m' r
+    → Taken z s s' (decode b) m m' r
+take-read {z} {s} {s'} {m = m} {m'} {r = r} h t = subst (λ (x : math.Option Step). Taken z s s' x m m' r) h.step t
+
 pub take-took
     : {z : Sizes} {s s' b m m' : List ℕ} {o : Option Decoded} {d : Decoded} {r : Result Reply Refusal}
     → Decodes b o

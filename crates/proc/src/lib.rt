@@ -6,17 +6,17 @@
 ghost use Rattle.std.specs.Prelude.{IfOk, IfErr};
 ghost use Rattle.machine.specs.Bytes.{decode};
 ghost use Rattle.machine.specs.Step.{start, rfork, name, sleep, wakeup, qlock, canqlock, qunlock, cond, tdel};
-ghost use Rattle.decode.specs.Means.{tsleep_of, tadd_of};
+ghost use Rattle.decode.specs.Means.{tsleep_of, tadd_of, step_of};
 ghost use Rattle.state.specs.Lent.{Same};
 ghost use Rattle.outcome.specs.Stepped.{Well};
 ghost use Rattle.outcome.specs.Took.{Took};
 ghost use Rattle.proc.specs.Ranges.{Within, Beyond, Truth, IsKernel, NotKernel, Lasting};
 ghost use Rattle.proc.specs.Plain.{Plain};
-ghost use Rattle.proc.specs.Arms.{CallAsks, CallTook};
+ghost use Rattle.proc.specs.Arms.{CallAsks};
 ghost use Rattle.proc.specs.Taken.{Taken};
 
 use clock::Duration;
-use decode::{Call, TaddFields, TsleepFields};
+use decode::{Call, Decoded, TaddFields, TsleepFields};
 use outcome::{Refusal, Reply};
 use proc_start::Making;
 use proc_timer::Kind;
@@ -218,18 +218,21 @@ fn tdel(s: &mut State, timer: u64) -> Result<Reply, Refusal>
     Ok(proc_timer::tdel(s, t))
 }
 
-// Takes a step that was read from bytes. A message that it tells is at the front of `message`.
+// Takes a step that was read from bytes; where there is none, it refuses that. A message that it tells is at the front of `message`.
 pub fn take_call(
     s: &mut State,
-    in_interrupt: bool,
-    call: Call,
+    decoded: Option<Decoded>,
     message: &mut [u8],
 ) -> Result<Reply, Refusal>
     requires { CallAsks s.old.sizes s.old.bytes.now message.old }
     ensures same { Same s.old s.new }
-    ensures done { CallTook s.old.sizes s.old.bytes.now s.new.bytes.now in_interrupt call.entry message.old message.new result }
+    ensures done { Taken s.old.sizes s.old.bytes.now s.new.bytes.now (step_of decoded.entry) message.old message.new result }
 {
-    match call {
+    let Some(step) = decoded else {
+        return Err(Refusal::NoSuchStep);
+    };
+    let in_interrupt = step.marked;
+    match step.call {
         Call::Start { how } => start(s, in_interrupt, how),
         Call::Rfork { flags, how } => rfork(s, in_interrupt, flags, how),
         Call::Name { bytes } => name(s, in_interrupt, bytes),
@@ -261,8 +264,5 @@ pub fn take(s: &mut State, b: &[u8], message: &mut [u8]) -> Result<Reply, Refusa
     if message.len() < SHORTEST {
         return Err(Refusal::NoSuchStep);
     }
-    let Some(step) = decode::decode(b) else {
-        return Err(Refusal::NoSuchStep);
-    };
-    take_call(s, step.marked, step.call, message)
+    take_call(s, decode::decode(b), message)
 }

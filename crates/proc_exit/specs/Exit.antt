@@ -59,9 +59,8 @@ unfolding in_range
 in_range_lem m status e = e
 
 -- Where the mark was tested.
-pub exit-rest
-    : {z : Sizes} {s s₁ status : List ℕ} {k : Bool} {i : ℕ} {r : Result code.Reply Refusal} → IsRunning z s k i → Exited z s s₁ false status r → Exited z s s₁ k status r
-exit-rest {z} {s} {s₁} {status} {k} {i} {r} u x = subst (λ (b : Bool). Exited z s s₁ b status r) (sym u.unmarked) x
+pub exit-rest : {z : Sizes} {s s₁ status : List ℕ} {k : Bool} {r : Result code.Reply Refusal} → k ≡ false → Exited z s s₁ false status r → Exited z s s₁ k status r
+exit-rest {z} {s} {s₁} {status} {k} {r} f x = subst (λ (b : Bool). Exited z s s₁ b status r) (sym f) x
 
 -- What an exit does and answers, where process i runs.
 exit-reply : (m : Machine) (i : ℕ) (status : List ℕ) → m.up ≡ some i → (perform (exit status) m).reply ≡ answer (Answer.exit (pid_of m i) status)

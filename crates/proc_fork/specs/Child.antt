@@ -81,6 +81,9 @@ module _ {z : Sizes} {s : List ℕ} {i : ℕ} (a : ForkAsks z s i) where
   pub fork-load : LoadAsks z s i
   fork-load = record { index = living-low fork-lives; long = a.well.holds.state.long }
 
+  pub fork-link : i + 1 ≤ 65535
+  fork-link = omega (arith, living-low fork-lives, a.well.holds.sizes.processes.1)
+
   module _ {p : Proc} (l : Loaded z s i p) where
     name-is : p.text ≡ (process (machine_in z s) i).name
     unfolding name_of

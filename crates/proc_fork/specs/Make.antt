@@ -18,7 +18,7 @@ use Rattle.state.specs.declared.Sizes.{Sizes}
 use Rattle.holds.specs.Holds.{Holds}
 use Rattle.holds.specs.Did.{machine_in, writes_in}
 use Rattle.holds.specs.Use.{same_use}
-use Rattle.holds.specs.Touched.{Touched, touched-did}
+use Rattle.holds.specs.Touched.{Touched, touched_none, touched-did}
 use Rattle.records.specs.Pid.{pid_stores, PidTaken}
 use Rattle.outcome.specs.declared.Reply as code
 use Rattle.outcome.specs.declared.Reply.TheVariants.{Pid}
@@ -59,6 +59,11 @@ module _ {z : Sizes} {s : List ℕ} (how : Making) (a : SpendAsks z s) where
         machine = t.did.machine;
         touched = touched-did t.did (same_use refl refl refl refl refl refl refl refl refl);
       })
+
+-- And it has not where M is another.
+module _ {z : Sizes} {s : List ℕ} {M : ℕ} (a : SpendAsks z s) where
+  pub spend-none : (M ≡ 3 → ⊥) → Spent z s s M
+  spend-none ne = record { holds = a.holds; bytes = rw (ne_eqb M 3 ne); machine = rw (ne_eqb M 3 ne); touched = touched_none }
 
 pub record RforkTook (z : Sizes) (s s' : List ℕ) (k : Bool) (F M : ℕ) (a : Result code.Reply Refusal) : Type 0 where
   pub stepped : Stepped z s s' (step k (rfork F M)) [] a

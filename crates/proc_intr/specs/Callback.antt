@@ -45,10 +45,14 @@ rendez_of z m t = if ltb t z.timers then m fields.timer_rendez t else m fields.r
 abbrev pub callback_stores : Sizes → Memory → (t l : ℕ) → List Write
 callback_stores z m t l = if eqb t 0 then tick_stores m else link_stores m (rendez_of z m t) l
 
--- It did what the machine's `callback` does; woke is the link to whom it woke, 0 for nobody.
-pub record CalledBack (z : Sizes) (s s' : List ℕ) (t : ℕ) : Type 0 where
+-- It did what the machine's `callback` does; l is the link to whom it woke, 0 for nobody.
+pub record CalledBack (z : Sizes) (s s' : List ℕ) (t l : ℕ) : Type 0 where
+  pub did : Readies z s s' (callback_stores z (mem_in z s) t l) (callback t (machine_in z s)) l
+
+-- It did so, whoever it woke.
+pub record DidCallback (z : Sizes) (s s' : List ℕ) (t : ℕ) : Type 0 where
   pub woke : ℕ
-  pub did : Readies z s s' (callback_stores z (mem_in z s) t woke) (callback t (machine_in z s)) woke
+  pub took : CalledBack z s s' t woke
 
 pub callback-ticks : {z : Sizes} {s : List ℕ} {t : ℕ} → CallbackAsks z s t → TickAsks z s
 unfolding machine_of
@@ -64,11 +68,10 @@ pub called-tick
     → CallbackAsks z s t
     → t ≡ 0
     → Became z s s' (tick_stores (mem_in z s)) (ticked (machine_in z s))
-    → CalledBack z s s' t
+    → CalledBack z s s' t 0
 unfolding callback
 called-tick {z} {s} {s'} {t} a e b =
     record {
-      woke = 0;
       did = record {
         holds = b.holds;
         bytes = rw e b.wrote.bytes;
@@ -91,15 +94,15 @@ unfolding callback
 own-callback M t ne l = rw (ne_eqb t 0 ne, le-ltb t M.sizes.timers l)
 
 pub called-own
-    : {z : Sizes} {s s' : List ℕ} {t i : ℕ}
+    : {z : Sizes} {s s' : List ℕ} {t i l : ℕ}
     → CallbackAsks z s t
     → WhoseIs z.timers t (Process i)
-    → Twoken z s s' i
-    → CalledBack z s s' t
+    → Twoken z s s' i l
+    → CalledBack z s s' t l
 unfolding machine_of
-called-own {z} {s} {s'} {t} a h x =
-    let w : Twoken z s s' (t - z.timers) = subst (Twoken z s s') h.2 x in
-    record { woke = w.woke; did = readies_as w.did (rw (ne_eqb t 0 h.0, le-ltb t z.timers h.1)) (own-callback (machine_in z s) t h.0 h.1) }
+called-own {z} {s} {s'} {t} {i} {l} a h x =
+    let w : Twoken z s s' (t - z.timers) l = subst (λ (j : ℕ). Twoken z s s' j l) h.2 x in
+    record { did = readies_as w.did (rw (ne_eqb t 0 h.0, le-ltb t z.timers h.1)) (own-callback (machine_in z s) t h.0 h.1) }
 
 -- A kernel timer.
 pub callback-wakes
@@ -121,13 +124,12 @@ pub called_kernel
     → WhoseIs z.timers t Kernel
     → r ≡ mem_in z s fields.timer_rendez t
     → Woke z s s' r l
-    → CalledBack z s s' t
+    → CalledBack z s s' t l
 unfolding machine_of
 called_kernel {z} {s} {s'} {t} {r} {l} a h e w =
     let M : Machine = machine_in z s in
     let x : (setting M t).rendez ≡ r = ap (λ (y : Setting). y.rendez) (setting_of_lem (holds-bounds a.well.holds) t h.1) ∙ sym e in
     record {
-      woke = l;
       did =
           readies_as (readies_woke (wake r M) w refl)
           (rw (ne_eqb t 0 h.0, lt-ltb t z.timers h.1) (ap (λ (y : ℕ). link_stores (mem_in z s) y l) e))

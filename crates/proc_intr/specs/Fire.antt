@@ -37,7 +37,7 @@ pub record Fired (z : Sizes) (s s' : List ℕ) (t : ℕ) : Type 0 where
   -- no more is used than before, and in a memory in which it is queued
   pub uses : (k : Memory) → 0 < k fields.is_queued t → Between z k (mem_in z s') (mem_in z s)
 
-pub fire-readd : {z : Sizes} {s s₁ : List ℕ} {t : ℕ} → FireAsks z s t → CalledBack z s s₁ t → ReaddAsks z s₁ t
+pub fire-readd : {z : Sizes} {s s₁ : List ℕ} {t l : ℕ} → FireAsks z s t → CalledBack z s s₁ t l → ReaddAsks z s₁ t
 fire-readd {t = t} a c =
     record {
       owing = record { owed = 0; holds = c.did.holds 0 a.call.well.holds };
@@ -46,7 +46,7 @@ fire-readd {t = t} a c =
       small = omega (arith, ap (λ (k : ℕ → ℕ). k t) c.did.touched.same.calm.deadlines, a.small);
     }
 
-pub fired : {z : Sizes} {s s₁ s₂ : List ℕ} {t : ℕ} → FireAsks z s t → CalledBack z s s₁ t → Readded z s₁ s₂ t → Fired z s s₂ t
+pub fired : {z : Sizes} {s s₁ s₂ : List ℕ} {t l : ℕ} → FireAsks z s t → CalledBack z s s₁ t l → Readded z s₁ s₂ t → Fired z s s₂ t
 fired {z} {s} {s₁} {s₂} {t} a c r =
     record {
       holds = λ n h. r.holds n (c.did.holds n h);

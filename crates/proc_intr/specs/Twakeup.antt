@@ -29,10 +29,14 @@ pub record TwakeupAsks (z : Sizes) (s : List ℕ) (i : ℕ) : Type 0 where
   pub index : i < z.processes
   pub lives : Used (mem_in z s) i
 
--- It wakes on the Rendez of the call, or nobody: woke is the link to whom.
-pub record Twoken (z : Sizes) (s s' : List ℕ) (i : ℕ) : Type 0 where
+-- It wakes on the Rendez of the call, or nobody: l is the link to whom.
+pub record Twoken (z : Sizes) (s s' : List ℕ) (i l : ℕ) : Type 0 where
+  pub did : Readies z s s' (link_stores (mem_in z s) (mem_in z s fields.resume_object i) l) (twakeup (process (machine_in z s) i).resume (machine_in z s)) l
+
+-- It does so, whoever it wakes.
+pub record DidTwakeup (z : Sizes) (s s' : List ℕ) (i : ℕ) : Type 0 where
   pub woke : ℕ
-  pub did : Readies z s s' (link_stores (mem_in z s) (mem_in z s fields.resume_object i) woke) (twakeup (process (machine_in z s) i).resume (machine_in z s)) woke
+  pub took : Twoken z s s' i woke
 
 -- What the record's call is to the machine.
 call-of
@@ -76,11 +80,10 @@ pub twoken-other
     → TwakeupAsks z s i
     → ResumeLoaded z s i c
     → ((r k : ℕ) → c ≡ Tsleep r k → ⊥)
-    → Twoken z s s i
+    → Twoken z s s i 0
 twoken-other {z} {s} {i} {c} a h ne =
     let M : Machine = machine_in z s in
     record {
-      woke = 0;
       did = readies-none (twakeup (process M i).resume M) (ap (λ (x : Resume). twakeup x M) (call-of a h) ∙ other-call c ne M);
     }
 
@@ -101,13 +104,12 @@ pub twoken
     → TwakeupAsks z s i
     → ResumeLoaded z s i (Tsleep r k)
     → Woke z s s' r l
-    → Twoken z s s' i
+    → Twoken z s s' i l
 unfolding twakeup
 twoken {z} {s} {s'} {i} {r} {k} {l} a h w =
     let m : Memory = mem_in z s in
     let M : Machine = machine_in z s in
     record {
-      woke = l;
       did =
           readies_as (readies_woke (wake r M) w refl)
           (ap (λ (x : ℕ). link_stores m x l) (object-is (m fields.resume_kind i) (m fields.resume_object i) (m fields.resume_condition i) h.resume.means))

@@ -5,8 +5,8 @@
 ghost use Rattle.machine.specs.Step.{intr};
 ghost use Rattle.state.specs.Lent.{Same};
 ghost use Rattle.outcome.specs.Stepped.{Well};
-ghost use Rattle.proc_intr.specs.Twakeup.{TwakeupAsks, Twoken};
-ghost use Rattle.proc_intr.specs.Callback.{WhoseIs, CallbackAsks, CalledBack};
+ghost use Rattle.proc_intr.specs.Twakeup.{TwakeupAsks, DidTwakeup};
+ghost use Rattle.proc_intr.specs.Callback.{WhoseIs, CallbackAsks, DidCallback};
 ghost use Rattle.proc_intr.specs.Fire.{FireAsks, Fired};
 ghost use Rattle.proc_intr.specs.Due.{DueAsks, FiredDue};
 ghost use Rattle.proc_intr.specs.Interrupt.{Interrupted};
@@ -23,7 +23,7 @@ const STUCK_LOOPS: u64 = 20_000;
 fn twakeup(s: &mut State, i: Index)
     requires { TwakeupAsks s.old.sizes s.old.bytes.now i }
     ensures same { Same s.old s.new }
-    ensures done { Twoken s.old.sizes s.old.bytes.now s.new.bytes.now i }
+    ensures done { DidTwakeup s.old.sizes s.old.bytes.now s.new.bytes.now i }
 {
     let call = Resume::load(&s.view(), i);
     let Resume::Tsleep { rendez, .. } = call else {
@@ -59,7 +59,7 @@ impl Whose {
 fn callback(s: &mut State, t: Index)
     requires { CallbackAsks s.old.sizes s.old.bytes.now t }
     ensures same { Same s.old s.new }
-    ensures done { CalledBack s.old.sizes s.old.bytes.now s.new.bytes.now t }
+    ensures done { DidCallback s.old.sizes s.old.bytes.now s.new.bytes.now t }
 {
     match Whose::of(s.sizes.timers, t) {
         Whose::Clock => clockwork::time::tick(s),

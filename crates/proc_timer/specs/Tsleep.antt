@@ -70,8 +70,8 @@ pub tsleep-running
 tsleep-running a u = record { asks = a; runs = u.runs }
 
 pub tsleep-rest
-    : {z : Sizes} {s s₁ : List ℕ} {k : Bool} {i r c : ℕ} {d : Duration} {n : ℕ} {a : Result code.Reply Refusal}
-    → IsRunning z s k i
+    : {z : Sizes} {s s₁ : List ℕ} {k : Bool} {r c : ℕ} {d : Duration} {n : ℕ} {a : Result code.Reply Refusal}
+    → k ≡ false
     → Tslept z s s₁ false r c d n a
     → Tslept z s s₁ k r c d n a
-tsleep-rest {z} {s} {s₁} {k} {i} {r} {c} {d} {n} {a} u t = subst (λ (x : Bool). Tslept z s s₁ x r c d n a) (sym u.unmarked) t
+tsleep-rest {z} {s} {s₁} {k} {r} {c} {d} {n} {a} e t = subst (λ (x : Bool). Tslept z s s₁ x r c d n a) (sym e) t

@@ -82,9 +82,8 @@ wait-refused {z} {s} {b} {k} a n =
 pub wait-pwait : {z : Sizes} {s b : List ℕ} {k : Bool} {i : ℕ} → WaitStepAsks z s b → IsRunning z s k i → PwaitAsks z s i b
 wait-pwait a u = record { well = a.well; room = a.room; runs = u.runs }
 
-pub wait-rest
-    : {z : Sizes} {s s₁ b b₁ : List ℕ} {k : Bool} {i : ℕ} {r : Result code.Reply Refusal} → IsRunning z s k i → WaitTook z s s₁ false b b₁ r → WaitTook z s s₁ k b b₁ r
-wait-rest {z} {s} {s₁} {b} {b₁} {k} {i} {r} u t = subst (λ (x : Bool). WaitTook z s s₁ x b b₁ r) (sym u.unmarked) t
+pub wait-rest : {z : Sizes} {s s₁ b b₁ : List ℕ} {k : Bool} {r : Result code.Reply Refusal} → k ≡ false → WaitTook z s s₁ false b b₁ r → WaitTook z s s₁ k b b₁ r
+wait-rest {z} {s} {s₁} {b} {b₁} {k} {r} e t = subst (λ (x : Bool). WaitTook z s s₁ x b b₁ r) (sym e) t
 
 -- Who runs.
 module _ {z : Sizes} {s : List ℕ} {i : ℕ} {b : List ℕ} (a : PwaitAsks z s i b) where

@@ -3,10 +3,11 @@
 
 pub mod name;
 
-ghost use Rattle.std.specs.Prelude.{◌≡◌, ◌+◌, ◌*◌, ◌<◌, ◌≤◌};
+ghost use Rattle.std.specs.Prelude.{is_some, ◌≡◌, ◌+◌, ◌*◌, ◌<◌, ◌≤◌};
 ghost use Rattle.std.specs.Option.{unwrap_or};
 ghost use Rattle.record.specs.Resumes.{number_of, object_of, condition_of, resume_is};
 ghost use Rattle.state.specs.Process.{call_number};
+ghost use Rattle.state.specs.WellFormed.{has_object, has_condition};
 ghost use Rattle.state.specs.Places.{Wrote};
 ghost use Rattle.state.specs.Lent.{Same};
 ghost use Rattle.record.specs.Stores.{LinksFit, id_stores, tie_stores, count_stores, resume_stores, number_stores, record_stores};
@@ -80,7 +81,8 @@ impl Resume {
 
     // The Rendez or the lock of a case that has one.
     pub fn object(self) -> Option<Index>
-        ensures { unwrap_or result 0 ≡ object_of self }
+        ensures value { unwrap_or result 0 ≡ object_of self }
+        ensures there { is_some result ≡ has_object (number_of self) }
     {
         match self {
             Resume::Nothing | Resume::Wait => None,
@@ -91,7 +93,8 @@ impl Resume {
 
     // The condition of a case that has one.
     pub fn condition(self) -> Option<u8>
-        ensures { unwrap_or result 0 ≡ condition_of self }
+        ensures value { unwrap_or result 0 ≡ condition_of self }
+        ensures there { is_some result ≡ has_condition (number_of self) }
     {
         match self {
             Resume::Sleep { condition, .. } | Resume::Tsleep { condition, .. } => Some(condition),

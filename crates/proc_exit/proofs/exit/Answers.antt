@@ -22,4 +22,4 @@ pexit-requires c =
     (rw (c.view.ensures.bytes, c.view.ensures.sizes) at c.in_ok-i.ensures.ok)
 
 pub returns-clause-done : goal.returns-clause-done
-returns-clause-done c = exit-rest (rw (c.view.ensures.bytes, c.view.ensures.sizes) at c.in_ok-i.ensures.ok) c.pexit.ensures.done
+returns-clause-done c = exit-rest c.in_ok-i.ensures.ok.unmarked c.pexit.ensures.done

@@ -12,5 +12,4 @@ pub sleep_timed-requires : goal.sleep_timed-requires
 sleep_timed-requires c = tsleep-running c.requires (rw (c.view.ensures.bytes, c.view.ensures.sizes) at c.in_ok-i.ensures.ok)
 
 pub returns-clause-done : goal.returns-clause-done
-returns-clause-done c =
-    tsleep-rest (rw (c.view.ensures.bytes, c.view.ensures.sizes) at c.in_ok-i.ensures.ok) c.sleep_timed.ensures.done
+returns-clause-done c = tsleep-rest c.in_ok-i.ensures.ok.unmarked c.sleep_timed.ensures.done

@@ -12,4 +12,4 @@ pub pwait-requires : goal.pwait-requires
 pwait-requires c = wait-pwait c.requires (rw (c.view.ensures.bytes, c.view.ensures.sizes) at c.in_ok-i.ensures.ok)
 
 pub returns-clause-done : goal.returns-clause-done
-returns-clause-done c = wait-rest (rw (c.view.ensures.bytes, c.view.ensures.sizes) at c.in_ok-i.ensures.ok) c.pwait.ensures.done
+returns-clause-done c = wait-rest c.in_ok-i.ensures.ok.unmarked c.pwait.ensures.done
