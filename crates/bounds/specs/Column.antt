@@ -22,6 +22,10 @@ column r o w n v = column_at (slot r o w) n v
 unfoldable pub Within : Sizes → List ℕ → Column → Type 0
 Within z s c = (i : ℕ) → i < c.records → cell_in z s c.place i ≤ c.most
 
+-- The same of the records from b on.
+unfoldable pub WithinFrom : Sizes → List ℕ → Column → ℕ → Type 0
+WithinFrom z s c b = (i : ℕ) → b ≤ i → i < c.records → cell_in z s c.place i ≤ c.most
+
 -- What a test of a column asks: the field lies in its record, there are that many records, and the bytes hold them.
 pub record Asks (z : Sizes) (s : List ℕ) (a : Slot) (n : ℕ) : Type 0 where
   pub inside : Inside layout1 a

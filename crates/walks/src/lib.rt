@@ -207,27 +207,36 @@ pub fn ages_ok(v: &Checked) -> Option<Count>
     }
 }
 
-// Are the timers in order, and are those in their queue all that are queued? This and the two below are one expression each.
+// Are the timers in order, and are those in their queue all that are queued? Here and in the two below the records are counted only where the walk
+// had an answer.
 pub fn timer_facts(v: &Checked) -> bool
     ensures { IsTrue result ↔ TimerFacts (sizes_in v.now.sizes) (mem_in v.now.sizes v.now.bytes.now) }
 {
     timers_ok(v)
-        && timer_queue_ok(v)
-            == Some(count_set(v, field::IS_QUEUED, v.sizes.timers + v.sizes.processes))
+        && match timer_queue_ok(v) {
+            None => false,
+            Some(n) => n == count_set(v, field::IS_QUEUED, v.sizes.timers + v.sizes.processes),
+        }
 }
 
 // Are the exits in order, and are their cells all that have an owner?
 pub fn exit_facts(v: &Checked) -> bool
     ensures { IsTrue result ↔ ExitFacts (sizes_in v.now.sizes) (mem_in v.now.sizes v.now.bytes.now) }
 {
-    all_exits_ok(v) == Some(u32::from(count_set(v, field::OWNER, v.sizes.cells)))
+    match all_exits_ok(v) {
+        None => false,
+        Some(n) => n == u32::from(count_set(v, field::OWNER, v.sizes.cells)),
+    }
 }
 
 // Are the living by age in order, and are they all the records that are used?
 pub fn age_facts(v: &Checked) -> bool
     ensures { IsTrue result ↔ AgeFacts (sizes_in v.now.sizes) (mem_in v.now.sizes v.now.bytes.now) }
 {
-    ages_ok(v) == Some(count_set(v, field::PID, v.sizes.processes))
+    match ages_ok(v) {
+        None => false,
+        Some(n) => n == count_set(v, field::PID, v.sizes.processes),
+    }
 }
 
 // Are the timers, the exits and the living by age in order?
