@@ -1,6 +1,6 @@
 -- The kinds of step by their words and their numbers.
-use Rattle.std.specs.Prelude.{if◌then◌else◌, ◌≡◌, ◌≢◌, refl, Bool, true, false, ◌&&◌, List, [], ◌∷◌, ℕ, ◌≤◌, eqb, codes}
-use Rattle.std.proofs.Common.{ap, ◌∙◌, eqb-true}
+use Rattle.std.specs.Prelude.{if◌then◌else◌, ◌≡◌, ◌≢◌, refl, Bool, true, false, ◌&&◌, List, [], ◌∷◌, ℕ, ◌≤◌, ◌<◌, eqb, length, codes}
+use Rattle.std.proofs.Common.{ap, ◌∙◌, arith, eqb-true}
 use Rattle.std.proofs.Math.Option.{Option, none, some}
 use Rattle.std.proofs.lemmas.Bool.{false≢true}
 use Rattle.machine.specs.Basics.{same, ascii}
@@ -59,6 +59,31 @@ word_of Wait = codes "wait"
 -- No kind has this word.
 abbrev pub IsNoWord : List ℕ → Type 0
 IsNoWord w = (k : Kind) → w ≢ word_of k
+
+-- A kind's word has at most eight bytes, so that a longer word is none.
+word-short : (k : Kind) → length (word_of k) ≤ 8
+word-short Start = omega arith
+word-short Rfork = omega arith
+word-short Name = omega arith
+word-short Sched = omega arith
+word-short Yield = omega arith
+word-short Sleep = omega arith
+word-short Tsleep = omega arith
+word-short Wakeup = omega arith
+word-short Qlock = omega arith
+word-short Canqlock = omega arith
+word-short Qunlock = omega arith
+word-short Cond = omega arith
+word-short Clock = omega arith
+word-short Tadd = omega arith
+word-short Tdel = omega arith
+word-short Intr = omega arith
+word-short Due = omega arith
+word-short Exit = omega arith
+word-short Wait = omega arith
+
+pub long-other : (w : List ℕ) → 8 < length w → IsNoWord w
+long-other w h k e = omega (arith, ap length e, word-short k)
 
 -- The form of the kind with a number.
 unfoldable pub form_of : List step.Kind → ℕ → Option Form

@@ -1,9 +1,10 @@
 -- The first word of a line, and what stands behind it.
-use Rattle.std.specs.Prelude.{if◌then◌else◌, ◌≡◌, refl, Bool, true, false, not, cond, ◌==◌, List, [], ◌∷◌, ℕ, suc, ◌+◌, ◌≤◌, ◌<◌, eqb, ltb, length, take, drop, Some, None, MatchOption, unwrap_or}
+use Rattle.std.specs.Prelude.{if◌then◌else◌, ◌≡◌, refl, Bool, true, false, not, cond, ◌==◌, List, [], ◌∷◌, ℕ, zero, suc, ◌+◌, ◌≤◌, ◌<◌, eqb, ltb, length, take, drop, Some, None, MatchOption, is_some, IsTrue, ◌↔◌, unwrap_or}
 use Rattle.std.specs.Prelude as rust
 use Rattle.std.specs.List.{position, position_or_len}
-use Rattle.std.proofs.Common.{sym, ap, arith, ltb-true, ltb-false}
+use Rattle.std.proofs.Common.{sym, ap, arith, length-take, length-take-le, ltb-true, ltb-false}
 use Rattle.std.proofs.Math.Option.{Option, none, some}
+use Rattle.std.proofs.lemmas.Bool.{false≢true}
 use Rattle.machine.specs.Parse.{first_word, after_space, bytes_in}
 use denote.Ref.{Bor}
 
@@ -66,6 +67,49 @@ splits line o e = rw e (go (ltb (space_in line) (length line)) refl)
     go false t =
         let q : (first_word line ≡ line) × (after_space line ≡ none) = missed line (ltb-false (space_in line) (length line) t) in
         record { word = sym q.0; rest = q.1 }
+
+-- The first word of the first bytes is the first of the first word; a word is no longer than its line.
+word-take : (n : ℕ) (line : List ℕ) → first_word (take n line) ≡ take n (first_word line)
+unfolding first_word
+word-take zero line = refl
+word-take (suc n) [] = refl
+word-take (suc n) (b ∷ bs) = go (eqb b 32) (word-take n bs)
+  where
+    go : (c : Bool) → first_word (take n bs) ≡ take n (first_word bs)
+        → (if c then [] else b ∷ first_word (take n bs)) ≡ take (suc n) (if c then [] else b ∷ first_word bs)
+    go true r = refl
+    go false r = ap (λ (xs : List ℕ). b ∷ xs) r
+
+pub length-word : (line : List ℕ) → length (first_word line) ≤ length line
+unfolding first_word
+length-word [] = omega arith
+length-word (b ∷ bs) = go (eqb b 32) (length-word bs)
+  where
+    go : (c : Bool) → length (first_word bs) ≤ length bs → length (if c then [] else b ∷ first_word bs) ≤ suc (length bs)
+    go true r = omega arith
+    go false r = omega arith
+
+-- Whether the first nine bytes have no space says whether the first word has more than eight.
+pub long-word : (line : List ℕ) (o : rust.Option ℕ) (r : Bool) → 8 < length line → o ≡ position (λ (b : ℕ). b == 32) (take 9 line) → is_some o ≡ not r
+    → IsTrue r ↔ 8 < length (first_word line)
+long-word line o r h e n = go o r n (splits (take 9 line) o e)
+  where
+    nine : length (take 9 line) ≡ 9
+    nine = length-take-le 9 line (omega arith)
+
+    part : length (first_word (take 9 line)) ≡ length (take 9 (first_word line))
+    part = ap length (word-take 9 line)
+
+    go : (o : rust.Option ℕ) (r : Bool) → is_some o ≡ not r → MatchOption o (Unsplit (take 9 line)) (SplitAt (take 9 line))
+        → IsTrue r ↔ 8 < length (first_word line)
+    go None true n u = (λ t. omega (arith, nine, part, ap length u.word, length-take 9 (first_word line)), λ l. refl)
+    go None false n u = absurd (false≢true n)
+    go (Some i) true n s = absurd (false≢true (sym n))
+    go (Some i) false n s =
+        let l : length (take i (take 9 line)) ≡ i = length-take-le i (take 9 line) (omega (arith, s.within)) in (
+          λ t. absurd (false≢true t),
+          λ k. absurd (omega (arith, nine, part, ap length s.word, s.within, l, length-take 9 (first_word line))),
+        )
 
 -- What stands behind the first space, nothing where there is none.
 pub rest-bytes : (r : rust.Option (Bor (List ℕ))) (d : Bor (List ℕ)) → d.now ≡ [] → (unwrap_or r d).now ≡ bytes_in (rest_of r)

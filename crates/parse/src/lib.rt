@@ -1,7 +1,7 @@
 // A line of the input of `steps` to the bytes of its step.
 #![tactic(auto)]
 
-ghost use Rattle.std.specs.Prelude.{◌≡◌, ◌≢◌, ◌∷◌, ◌+◌, ◌*◌, ◌≤◌, ◌<◌, ◌==◌, length, drop, IfSome, IfNone, MatchOption, position};
+ghost use Rattle.std.specs.Prelude.{◌≡◌, ◌≢◌, ◌∷◌, ◌+◌, ◌*◌, ◌≤◌, ◌<◌, ◌==◌, length, drop, IfSome, IfNone, IsTrue, MatchOption, ◌↔◌, position};
 ghost use Rattle.std.proofs.Math.Option.{none, some};
 ghost use Rattle.machine.specs.Step.{kinds};
 ghost use Rattle.machine.specs.Parse.{first_word, after_space, fields_in, number, step_with, parse_body, parse_line};
@@ -16,6 +16,9 @@ use memory::Number;
 
 // The most bytes of a line that is a step.
 const LINE_MOST: usize = 4_096;
+
+// The most bytes of a kind's word: those of `canqlock`.
+const WORD_MOST: usize = 8;
 
 // The kinds of step, with the number of each.
 #[derive(Clone, Copy, Debug, PartialEq, Eq)]
@@ -122,6 +125,13 @@ fn split(line: &[u8]) -> (&[u8], Option<&[u8]>)
     }
 }
 
+// Is the first word of a line longer than any kind's? Looks at no more of the line than tells it.
+fn has_long_word(line: &[u8]) -> bool
+    ensures { IsTrue result ↔ 8 < length (first_word line.now) }
+{
+    WORD_MOST < line.len() && space(&line[..WORD_MOST + 1]).is_none()
+}
+
 // The number that a word is in decimal: digits alone, of a number below 2^64.
 fn number(word: &[u8]) -> Option<u64>
     ensures { MatchOption result (number word.now ≡ none) (λ x. number word.now ≡ some x) }
@@ -203,6 +213,9 @@ fn body(line: &[u8], marked: bool, out: &mut [u8]) -> Option<usize>
     requires { Asks line.now out.old }
     ensures { IsParsed (step_with marked (parse_body kinds line.now)) out.old out.new result }
 {
+    if has_long_word(line) {
+        return None;
+    }
     let (word, rest) = split(line);
     let kind = Kind::named(word)?;
     let head = Head { kind, marked };

@@ -1,15 +1,19 @@
 -- `parse::body` meets its contract: each return cites its law.
 use Rattle.std.specs.Prelude.{◌≡◌, refl, List, [], ◌∷◌, ℕ, length, take}
-use Rattle.std.proofs.Common.{sym, ap, ◌∙◌, arith, length-take-le}
+use Rattle.std.proofs.Common.{sym, ap, ◌∙◌, arith, rules, length-take-le}
 use Rattle.machine.specs.Step.{kinds}
-use Rattle.machine.specs.Parse.{after_space, bytes_in}
+use Rattle.machine.specs.Parse.{first_word, after_space, bytes_in}
 use Rattle.parse.specs.Words.{rest-bytes, length-rest}
 use Rattle.parse.specs.declared.Kind.{Kind}
 use Rattle.parse.specs.declared.Fields.TheVariants.{Numbers}
-use Rattle.parse.specs.Kinds.{number, form_of, IsOfForm, few}
+use Rattle.parse.specs.Kinds.{number, form_of, IsOfForm, few, long-other}
 use Rattle.parse.specs.Parsed.{body-none, body-unread, body-numbers, body-text}
 use Rattle.parse.proofs.body.Goals as goal
 use denote.Ref.{Bor}
+
+pub returns-then-has_long_word : goal.returns-then-has_long_word
+returns-then-has_long_word c =
+    body-none _ c.args.line.now _ (long-other (first_word c.args.line.now) (c.has_long_word.ensures.0 (search rules)))
 
 pub returns-in_err-kind : goal.returns-in_err-kind
 returns-in_err-kind c =
