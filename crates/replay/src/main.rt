@@ -1,27 +1,29 @@
 // Replays lists of steps: the listing that the machine gives for each is compared with the one that is kept.
 // Its arguments come in threes: the sizes as P,R,Q,K,C,HZ; a file of steps; the listing that is kept of it. It ends at the first list that does not
-// agree, at sizes of no state, at a file that cannot be read whole or at a rest of arguments, names it, and says how many agreed. Where memory
-// runs out it ends with 1, and says so on standard error.
+// agree, at sizes of no state, at a file that cannot be read whole or at a rest of arguments, names it, and says how many agreed. It allocates
+// nothing: its buffers are arrays on the stack.
 #![tactic(auto)]
 
-ghost use Rattle.std.specs.Prelude.{◌≡◌};
+ghost use Rattle.std.specs.Prelude.{◌+◌, ◌^◌, ◌≤◌, ◌<◌, length};
 ghost use Rattle.replay.specs.Replay.{ListAsks};
 
 use line::Machine;
 use listing::Listing;
 use print::Out;
 use state::State;
-use std::alloc::{AllocError, Global};
 use std::env::{Env, FillError};
 use std::fs::File;
 use std::io;
-use std::io::{ErrorKind, Read, Write};
+use std::io::{Read, Write};
 
 // The most bytes of a state, a file or a listing.
 const MOST: usize = 262_144;
 
 // The most bytes of an argument.
 const WORD_SIZE: usize = 4_096;
+
+// A loop has to end, and nothing says that the arguments do: it counts the lists, to a number that no run comes to.
+const MOST_LISTS: usize = 6_148_914_691_236_517_205;
 
 // Why a list does not agree, with the argument that is at fault.
 #[derive(Clone, Copy, Debug, PartialEq, Eq)]
@@ -34,14 +36,6 @@ enum Fault<'a> {
     Differs(&'a [u8], u64),
     // A rest of arguments.
     Rest(&'a [u8]),
-    // No memory for a state, a file or a listing.
-    OutOfMemory,
-}
-
-impl From<AllocError> for Fault<'_> {
-    fn from(_e: AllocError) -> Self {
-        Fault::OutOfMemory
-    }
 }
 
 // A number with one more digit. None: there would be too many.
@@ -74,11 +68,10 @@ fn open(s: &mut [u8], text: &[u8]) -> Option<()> {
     }
 }
 
-// The listing of the steps in `input`, at the front of the buffer, by a listing that begins. None: there is no room.
-fn list<'a>(listing: &mut Listing, input: &[u8], buffer: &'a mut [u8]) -> Option<&'a [u8]>
-    requires asks { ListAsks listing.old.machine.state.sizes listing.old.machine.state.bytes.now input.now }
-    requires have { listing.old.have ≡ 0 }
-    requires number { listing.old.number ≡ 1 }
+// The listing of the steps in `input`, from a well-formed state on, at the front of the buffer. None: there is no room.
+// The room for a line and a step stands here alone: what the check of a state needs of the stack is free again by then.
+fn list<'a>(state: &mut State, input: &[u8], buffer: &'a mut [u8]) -> Option<&'a [u8]>
+    requires { ListAsks state.old.sizes state.old.bytes.now input.now }
 {
     if buffer.len() < 34 {
         return None;
@@ -88,6 +81,19 @@ fn list<'a>(listing: &mut Listing, input: &[u8], buffer: &'a mut [u8]) -> Option
         used: 0,
     };
     listing::begin(&mut out);
+    let mut listing = Listing {
+        machine: Machine {
+            state: State {
+                bytes: &mut *state.bytes,
+                sizes: state.sizes,
+            },
+            step: [0; line::STEP_SIZE],
+            message: [0; line::MESSAGE_SIZE],
+        },
+        held: [0; listing::HELD_SIZE],
+        have: 0,
+        number: 1,
+    };
     listing.feed(input, &mut out);
     if out.bytes.len() - out.used < line::most(listing.machine.state.sizes) {
         return None;
@@ -107,17 +113,7 @@ fn listing_of<'a>(s: &mut [u8], input: &[u8], buffer: &'a mut [u8]) -> Option<&'
         return None;
     }
     let sizes = verify::load_sizes(s);
-    let mut listing = Listing {
-        machine: Machine {
-            state: State { bytes: s, sizes },
-            step: [0; line::STEP_SIZE],
-            message: [0; line::MESSAGE_SIZE],
-        },
-        held: [0; listing::HELD_SIZE],
-        have: 0,
-        number: 1,
-    };
-    list(&mut listing, input, buffer)
+    list(&mut State { bytes: s, sizes }, input, buffer)
 }
 
 // The number of the line behind a byte of line `line`.
@@ -142,38 +138,47 @@ fn difference(a: &[u8], b: &[u8]) -> Option<u64> {
 }
 
 // The number of the first line in which the listing of `input` is not the one that is kept. What has no listing has an empty one.
-fn compare(
-    alloc: Global,
-    s: &mut [u8],
-    input: &[u8],
-    kept: &[u8],
-) -> Result<Option<u64>, AllocError> {
-    let mut buffer = vec![in alloc; 0u8; MOST]?;
+fn compare(s: &mut [u8], input: &[u8], kept: &[u8]) -> Option<u64> {
+    let mut buffer = [0u8; MOST];
     let listing = listing_of(s, input, &mut buffer).unwrap_or(b"");
-    Ok(difference(listing, kept))
+    difference(listing, kept)
 }
 
-// Reads to the end. None: a read fails, or more comes than a file may have.
-fn load<R: Read + Drop>(alloc: Global, from: R) -> Result<Option<Vec<u8>>, AllocError> {
-    let mut bytes = Vec::new(alloc);
-    match from.take(MOST as u64 + 1).read_to_end(&mut bytes) {
-        Ok(_) if bytes.len() <= MOST => Ok(Some(bytes)),
-        Err(e) if e.kind() == ErrorKind::OutOfMemory => Err(AllocError),
-        _ => Ok(None),
+// Reads until the buffer is full, the input ends or a read fails: how many bytes it put at the front of the buffer.
+fn read_full<R: Read>(from: &mut R, buffer: &mut [u8]) -> usize
+    ensures { result ≤ length buffer.new }
+{
+    let mut length = 0;
+    while length < buffer.len() {
+        match from.read(&mut buffer[length..]) {
+            Ok(n) if 0 < n => length += n,
+            _ => return length,
+        }
+    }
+    length
+}
+
+// Reads to the end. None: it does not end there, since more comes than the buffer holds, or a read fails again.
+fn load<'a, R: Read + Drop>(from: R, buffer: &'a mut [u8]) -> Option<&'a [u8]> {
+    let mut from = from;
+    let length = read_full(&mut from, buffer);
+    match from.read(&mut [0; 1]) {
+        Ok(0) => Some(&buffer[..length]),
+        _ => None,
     }
 }
 
-// Reads a file. None: it cannot be opened or read, or is too long.
-fn read_file(rt: HostRuntime, name: &[u8]) -> Result<Option<Vec<u8>>, AllocError> {
+// Reads a file. None: it cannot be opened or read, or is longer than the buffer.
+fn read_file<'a>(rt: HostRuntime, name: &[u8], buffer: &'a mut [u8]) -> Option<&'a [u8]> {
     let Ok(name) = str::from_utf8(name) else {
-        return Ok(None);
+        return None;
     };
     match File::open(&rt, name) {
-        Ok(file) => load(rt.alloc(), file),
+        Ok(file) => load(file, buffer),
         Err(e) => {
             // what standard error does not take is not said
             _ = eprintln!(rt; "{name}: {e}");
-            Ok(None)
+            None
         },
     }
 }
@@ -185,48 +190,46 @@ fn replay_list<'a>(
     steps: &'a [u8],
     listing: &'a [u8],
 ) -> Result<(), Fault<'a>> {
-    let mut state = vec![in rt.alloc(); 0u8; MOST]?;
-    let input = read_file(rt, steps)?;
-    let kept = read_file(rt, listing)?;
+    let mut state = [0u8; MOST];
+    let mut input = [0u8; MOST];
+    let mut kept = [0u8; MOST];
+    let input = read_file(rt, steps, &mut input);
+    let kept = read_file(rt, listing, &mut kept);
     open(&mut state, sizes).ok_or(Fault::Unmade(sizes))?;
     let input = input.ok_or(Fault::Unread(steps))?;
     let kept = kept.ok_or(Fault::Unread(listing))?;
-    match compare(rt.alloc(), &mut state, &input, &kept)? {
+    match compare(&mut state, input, kept) {
         None => Ok(()),
         Some(line) => Err(Fault::Differs(steps, line)),
     }
 }
 
-// The same for three arguments, or what is left of them.
-fn replay_words(rt: HostRuntime, words: &[Vec<u8>]) -> Result<(), Fault<'_>> {
-    match words {
-        [sizes, steps, listing] => replay_list(rt, sizes, steps, listing),
-        [first, ..] => Err(Fault::Rest(first)),
-        [] => Ok(()),
-    }
-}
-
 // Argument `i`; an empty one, where it does not fit. None: there is none.
-fn argument(rt: HostRuntime, i: usize) -> Result<Option<Vec<u8>>, AllocError> {
-    let mut word = vec![in rt.alloc(); 0u8; WORD_SIZE]?;
-    match rt.arg(i, &mut word) {
-        Ok(n) => word.truncate(n),
-        Err(FillError::TooLong) => word.clear(),
-        Err(FillError::NotPresent) => return Ok(None),
+fn argument<'a>(rt: HostRuntime, i: usize, word: &'a mut [u8]) -> Option<&'a [u8]> {
+    match rt.arg(i, word) {
+        Ok(n) => Some(&word[..n]),
+        Err(FillError::TooLong) => Some(b""),
+        Err(FillError::NotPresent) => None,
     }
-    Ok(Some(word))
 }
 
-// The arguments behind the program's name.
-fn arguments(rt: HostRuntime) -> Result<Vec<Vec<u8>>, AllocError> {
-    let mut words = Vec::new(rt.alloc());
-    for i in 1..usize::MAX {
-        let Some(word) = argument(rt, i)? else {
-            break;
-        };
-        words.push(word)?;
-    }
-    Ok(words)
+// Is there a list that the three arguments from `i` on name, and does it agree? False: there is none of them.
+fn replay_words<'a>(
+    rt: HostRuntime,
+    i: usize,
+    sizes: &'a mut [u8],
+    steps: &'a mut [u8],
+    listing: &'a mut [u8],
+) -> Result<bool, Fault<'a>>
+    requires { i + 2 < 2 ^ 64 }
+{
+    let Some(sizes) = argument(rt, i, sizes) else {
+        return Ok(false);
+    };
+    let steps = argument(rt, i + 1, steps).ok_or(Fault::Rest(sizes))?;
+    let listing = argument(rt, i + 2, listing).ok_or(Fault::Rest(sizes))?;
+    replay_list(rt, sizes, steps, listing)?;
+    Ok(true)
 }
 
 // Names an argument, and what there is to say of it.
@@ -237,7 +240,7 @@ fn say(rt: HostRuntime, word: &[u8], what: &[u8]) -> io::Result<()> {
     out.write_all(what)
 }
 
-// Says why a list does not agree. Out of memory is an error of the program.
+// Says why a list does not agree.
 fn report(rt: HostRuntime, fault: Fault<'_>) -> io::Result<()> {
     match fault {
         Fault::Unmade(sizes) => say(rt, sizes, b": no sizes of a state, or too large\n"),
@@ -247,7 +250,6 @@ fn report(rt: HostRuntime, fault: Fault<'_>) -> io::Result<()> {
             say(rt, steps, b": another listing, from line ")?;
             println!(rt; "{line}")
         },
-        Fault::OutOfMemory => Err(io::Error::from(AllocError)),
     }
 }
 
@@ -257,14 +259,20 @@ fn tell(rt: HostRuntime, agreed: usize) -> io::Result<()> {
 }
 
 fn main(rt: HostRuntime) -> io::Result<()> {
-    let words = arguments(rt)?;
-    for (agreed, three) in words.chunks(3).enumerate() {
-        if let Err(fault) = replay_words(rt, three) {
-            report(rt, fault)?;
-            return tell(rt, agreed);
+    let mut sizes = [0u8; WORD_SIZE];
+    let mut steps = [0u8; WORD_SIZE];
+    let mut listing = [0u8; WORD_SIZE];
+    for agreed in 0..MOST_LISTS {
+        match replay_words(rt, 1 + 3 * agreed, &mut sizes, &mut steps, &mut listing) {
+            Ok(true) => {},
+            Ok(false) => return tell(rt, agreed),
+            Err(fault) => {
+                report(rt, fault)?;
+                return tell(rt, agreed);
+            },
         }
     }
-    tell(rt, words.len() / 3)
+    tell(rt, MOST_LISTS)
 }
 
 #[cfg(test)]
@@ -274,24 +282,30 @@ mod tests {
 
     #[test]
     fn a_reader_is_loaded_whole(rt: HostRuntime) -> Result<(), Fail> {
-        let bytes = load(rt.alloc(), b"exit a\n".as_slice())?.ok_or("not loaded")?;
-        assert_eq!(rt; bytes.as_slice(), b"exit a\n".as_slice());
+        let mut buffer = [0u8; MOST];
+        let bytes = load(b"exit a\n".as_slice(), &mut buffer).ok_or("not loaded")?;
+        assert_eq!(rt; bytes, b"exit a\n".as_slice());
         Ok(())
     }
 
     #[test]
     fn the_listing_of_no_steps_agrees(rt: HostRuntime) -> Result<(), Fail> {
-        let mut state = vec![in rt.alloc(); 0u8; MOST]?;
+        let mut state = [0u8; MOST];
         open(&mut state, b"16,16,16,16,256,1000000").ok_or("not made")?;
         let kept = b"step;answer;up;queue;asleep;ticks\n".as_slice();
-        assert_eq!(rt; compare(rt.alloc(), &mut state, b"", kept)?, None);
+        assert_eq!(rt; compare(&mut state, b"", kept), None);
         Ok(())
     }
 
     #[test]
     fn arguments_are_read(rt: HostRuntime) -> Result<(), Fail> {
-        let words = arguments(rt)?;
-        assert!(rt; words.iter().all(|word| word.len() <= WORD_SIZE));
+        let mut word = [0u8; WORD_SIZE];
+        for i in 1..usize::MAX {
+            let Some(argument) = argument(rt, i, &mut word) else {
+                break;
+            };
+            assert!(rt; argument.len() <= WORD_SIZE);
+        }
         Ok(())
     }
 }

@@ -139,9 +139,9 @@ fn take_input<R: Read, W: Write>(
 }
 
 fn main(rt: HostRuntime) -> io::Result<()> {
-    let mut state = vec![in rt.alloc(); 0u8; listing::STATE_SIZE]?;
-    let mut input = vec![in rt.alloc(); 0u8; CHUNK_SIZE]?;
-    let mut buffer = vec![in rt.alloc(); 0u8; CHUNK_SIZE]?;
+    let mut state = [0u8; listing::STATE_SIZE];
+    let mut input = [0u8; CHUNK_SIZE];
+    let mut buffer = [0u8; CHUNK_SIZE];
     let mut from = rt.stdin();
     let mut to = rt.stdout();
     take_input(&mut from, &mut to, &mut state, &mut input, &mut buffer)

@@ -1,5 +1,4 @@
 -- `replay::listing_of` meets its contract: each need by its law.
-use Rattle.std.specs.Prelude.{refl}
 use Rattle.std.proofs.Common.{arith}
 use Rattle.step.specs.Exported.{checked_long}
 use Rattle.replay.specs.Replay.{list-asks}
@@ -9,9 +8,4 @@ pub load_sizes-sizes-requires : goal.load_sizes-sizes-requires
 load_sizes-sizes-requires c = checked_long _ c.if-not-check.false c.check.ensures
 
 pub list-requires : goal.list-requires
-list-requires c =
-    record {
-      asks = list-asks c.if-not-check.false c.check.ensures c.load_sizes-sizes.ensures (omega arith);
-      have = refl;
-      number = refl;
-    }
+list-requires c = list-asks c.if-not-check.false c.check.ensures c.load_sizes-sizes.ensures (omega arith)
