@@ -145,6 +145,7 @@ fn period_of(kind: Kind, counts: u64) -> u64
 }
 
 // Sets what kernel timer `t` does, and queues it with a deadline.
+#[inline(always)]
 fn set_after(s: &mut State, t: Index, kind: Kind, r: Index, at: Deadline)
     requires { SetAsks s.old.sizes s.old.bytes.now t r at.reading at.counts }
     ensures same { Same s.old s.new }
@@ -155,6 +156,7 @@ fn set_after(s: &mut State, t: Index, kind: Kind, r: Index, at: Deadline)
 }
 
 // Adds kernel timer `t` to wake Rendez `r`.
+#[inline(always)]
 pub fn tadd(
     s: &mut State,
     t: Index,
