@@ -102,6 +102,7 @@ pub fn interrupt(s: &mut State, reading: u64) -> u64
     ensures same { Same s.old s.new }
     ensures done { Interrupted s.old.sizes s.old.bytes.now s.new.bytes.now reading result }
 {
+    // lent on as a state of this frame: no store to its bytes can then be one to its sizes (docs/DECISIONS.md, 78)
     let sizes = s.sizes;
     let bytes = &mut *s.bytes;
     fire_due(&mut State { bytes, sizes }, reading)

@@ -85,6 +85,7 @@ pub fn begin(s: &mut State, p: Proc)
     ensures same { Same s.old s.new }
     ensures done { Begun s.old.sizes s.old.bytes.now s.new.bytes.now p }
 {
+    // lent on as a state of this frame: no store to its bytes can then be one to its sizes (docs/DECISIONS.md, 78)
     let sizes = s.sizes;
     let bytes = &mut *s.bytes;
     let s = &mut State { bytes, sizes };

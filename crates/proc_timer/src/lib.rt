@@ -77,6 +77,7 @@ fn add_after(s: &mut State, t: Index, at: Deadline)
     ensures same { Same s.old s.new }
     ensures done { AddedAfter s.old.sizes s.old.bytes.now s.new.bytes.now t at.reading at.counts }
 {
+    // lent on as a state of this frame: no store to its bytes can then be one to its sizes (docs/DECISIONS.md, 78)
     let sizes = s.sizes;
     let bytes = &mut *s.bytes;
     let s = &mut State { bytes, sizes };

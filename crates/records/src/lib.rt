@@ -70,6 +70,7 @@ pub fn alloc(s: &mut State, p: Proc) -> Option<Index>
     ensures same { Same s.old s.new }
     ensures done { Allocated s.old.sizes s.old.bytes.now s.new.bytes.now p (link result) }
 {
+    // lent on as a state of this frame: no store to its bytes can then be one to its sizes (docs/DECISIONS.md, 78)
     let sizes = s.sizes;
     let bytes = &mut *s.bytes;
     let s = &mut State { bytes, sizes };
@@ -85,6 +86,7 @@ pub fn release(s: &mut State, i: Index)
     ensures same { Same s.old s.new }
     ensures done { Released s.old.sizes s.old.bytes.now s.new.bytes.now i }
 {
+    // lent on as a state of this frame: no store to its bytes can then be one to its sizes (docs/DECISIONS.md, 78)
     let sizes = s.sizes;
     let bytes = &mut *s.bytes;
     let s = &mut State { bytes, sizes };

@@ -39,6 +39,7 @@ pub fn add(s: &mut State, t: Index, deadline: u64)
     ensures same { Same s.old s.new }
     ensures added { Added s.old.sizes s.old.bytes.now s.new.bytes.now t deadline }
 {
+    // lent on as a state of this frame: no store to its bytes can then be one to its sizes (docs/DECISIONS.md, 78)
     let sizes = s.sizes;
     let bytes = &mut *s.bytes;
     let s = &mut State { bytes, sizes };

@@ -171,6 +171,7 @@ pub fn insert(s: &mut State, t: Index, deadline: u64)
     ensures same { Same s.old s.new }
     ensures inserted { Inserted s.old.sizes s.old.bytes.now s.new.bytes.now t deadline }
 {
+    // lent on as a state of this frame: no store to its bytes can then be one to its sizes (docs/DECISIONS.md, 78)
     let sizes = s.sizes;
     let bytes = &mut *s.bytes;
     let s = &mut State { bytes, sizes };
@@ -244,6 +245,7 @@ pub fn remove(s: &mut State, t: Index)
     ensures same { Same s.old s.new }
     ensures removed { Removed s.old.sizes s.old.bytes.now s.new.bytes.now t }
 {
+    // lent on as a state of this frame: no store to its bytes can then be one to its sizes (docs/DECISIONS.md, 78)
     let sizes = s.sizes;
     let bytes = &mut *s.bytes;
     let s = &mut State { bytes, sizes };

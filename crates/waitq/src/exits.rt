@@ -102,6 +102,7 @@ pub fn take(s: &mut State, i: Index) -> Link
     ensures same { Same s.old s.new }
     ensures taken { TakeDone s.old.sizes s.old.bytes.now s.new.bytes.now i (link result) }
 {
+    // lent on as a state of this frame: no store to its bytes can then be one to its sizes (docs/DECISIONS.md, 78)
     let sizes = s.sizes;
     let bytes = &mut *s.bytes;
     let s = &mut State { bytes, sizes };
@@ -142,6 +143,7 @@ pub fn add(s: &mut State, i: Index, pid: u64, name: [u8; 28], status: &[u8])
     ensures same { Same s.old s.new }
     ensures added { AddDone s.old.sizes s.old.bytes.now s.new.bytes.now i pid name status.now }
 {
+    // lent on as a state of this frame: no store to its bytes can then be one to its sizes (docs/DECISIONS.md, 78)
     let sizes = s.sizes;
     let bytes = &mut *s.bytes;
     let s = &mut State { bytes, sizes };

@@ -9,5 +9,5 @@ ready-requires c = rw c.in-Some.ensures.same.sizes (begin-ready c.requires c.in-
 pub returns-clause-done : goal.returns-clause-done
 returns-clause-done c =
     let done =
-        begun c.requires c.in-Some.ensures.done (rw c.in-Some.ensures.same.sizes at c.ready.ensures.done)
+    begun c.requires c.in-Some.ensures.done (rw c.in-Some.ensures.same.sizes at c.ready.ensures.done)
     in search rules

@@ -9,5 +9,5 @@ add-requires c = rw c.set_now.ensures.same.sizes (after-add c.requires c.set_now
 pub returns-clause-done : goal.returns-clause-done
 returns-clause-done c =
     let done =
-        added-after c.set_now.ensures.became (rw c.set_now.ensures.same.sizes at c.add.ensures.added)
+    added-after c.set_now.ensures.became (rw c.set_now.ensures.same.sizes at c.add.ensures.added)
     in search rules

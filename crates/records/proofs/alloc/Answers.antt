@@ -20,6 +20,6 @@ occupy-requires c =
 pub returns-clause-done : goal.returns-clause-done
 returns-clause-done c =
     let done =
-        alloc-one c.requires (rw (c.view.ensures.bytes, c.view.ensures.sizes) at c.in_ok-i.ensures) c.next_pid-pid.ensures.done
-        (rw c.next_pid-pid.ensures.same.sizes at c.occupy.ensures.done)
+    alloc-one c.requires (rw (c.view.ensures.bytes, c.view.ensures.sizes) at c.in_ok-i.ensures) c.next_pid-pid.ensures.done
+    (rw c.next_pid-pid.ensures.same.sizes at c.occupy.ensures.done)
     in search rules

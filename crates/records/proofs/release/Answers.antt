@@ -21,8 +21,8 @@ set-requires-2-clause-reach c =
 pub returns-clause-done : goal.returns-clause-done
 returns-clause-done c =
     let done =
-        let k = c.age_out.ensures.same.sizes in
-        let l = c.drop_record.ensures.same.sizes ∙ k in
-        released c.requires c.age_out.ensures.done (rw k at c.drop_record.ensures.done) (rw l at c.set.ensures.put)
-        (rw (c.number.ensures, c.set.ensures.same.sizes, l) at c.set-2.ensures.put)
+    let k = c.age_out.ensures.same.sizes in
+    let l = c.drop_record.ensures.same.sizes ∙ k in
+    released c.requires c.age_out.ensures.done (rw k at c.drop_record.ensures.done) (rw l at c.set.ensures.put)
+    (rw (c.number.ensures, c.set.ensures.same.sizes, l) at c.set-2.ensures.put)
     in search rules

@@ -6,6 +6,6 @@ use Rattle.timers.proofs.insert.Goals as goal
 pub returns-clause-inserted : goal.returns-clause-inserted
 returns-clause-inserted c =
     let done =
-        inserted-into c.requires c.link_in.ensures.same c.set.ensures.same (rw (c.view.ensures.bytes, c.view.ensures.sizes) at c.find_before-at.ensures)
-        c.link_in.ensures.stored c.set.ensures.put c.set_queued.ensures.put c.ranges.deadline
+    inserted-into c.requires c.link_in.ensures.same c.set.ensures.same (rw (c.view.ensures.bytes, c.view.ensures.sizes) at c.find_before-at.ensures)
+    c.link_in.ensures.stored c.set.ensures.put c.set_queued.ensures.put c.ranges.deadline
     in search rules

@@ -6,12 +6,12 @@ use Rattle.timers.proofs.remove.Goals as goal
 pub returns-clause-removed : goal.returns-clause-removed
 returns-clause-removed c =
     let done =
-        removed-one c.requires (rw (c.view-v.ensures.bytes, c.view-v.ensures.sizes) at c.is_queued.ensures) c.if-not-is_queued.false
-        (rw (c.view-v.ensures.bytes, c.view-v.ensures.sizes) at c.find_link-at.ensures) c.take_out.ensures.stored
+    removed-one c.requires (rw (c.view-v.ensures.bytes, c.view-v.ensures.sizes) at c.is_queued.ensures) c.if-not-is_queued.false
+    (rw (c.view-v.ensures.bytes, c.view-v.ensures.sizes) at c.find_link-at.ensures) c.take_out.ensures.stored
     in search rules
 
 pub returns-then-not-is_queued-clause-removed : goal.returns-then-not-is_queued-clause-removed
 returns-then-not-is_queued-clause-removed c =
     let done =
-        removed-none c.requires (rw (c.view-v.ensures.bytes, c.view-v.ensures.sizes) at c.is_queued.ensures) c.if-not-is_queued.true
+    removed-none c.requires (rw (c.view-v.ensures.bytes, c.view-v.ensures.sizes) at c.is_queued.ensures) c.if-not-is_queued.true
     in search rules

@@ -9,5 +9,5 @@ enqueue-requires c = off-asks c.requires c.del.ensures.same c.del.ensures.delete
 pub returns-clause-added : goal.returns-clause-added
 returns-clause-added c =
     let done =
-        added-to c.requires c.del.ensures.same c.del.ensures.deleted c.enqueue.ensures.queued
+    added-to c.requires c.del.ensures.same c.del.ensures.deleted c.enqueue.ensures.queued
     in search rules

@@ -24,8 +24,8 @@ push-requires c =
 pub returns-clause-added : goal.returns-clause-added
 returns-clause-added c =
     let done =
-        let k = c.use_cell.ensures.same.sizes in
-        added c.requires (rw (c.view.ensures.bytes, c.view.ensures.sizes) at c.in-Some.ensures) c.use_cell.ensures.done
-        (rw k at c.write_message-length.ensures.written)
-        (rw (c.write_message-length.ensures.same.sizes, k) at c.push.ensures.pushed)
+    let k = c.use_cell.ensures.same.sizes in
+    added c.requires (rw (c.view.ensures.bytes, c.view.ensures.sizes) at c.in-Some.ensures) c.use_cell.ensures.done
+    (rw k at c.write_message-length.ensures.written)
+    (rw (c.write_message-length.ensures.same.sizes, k) at c.push.ensures.pushed)
     in search rules

@@ -19,5 +19,5 @@ pop-requires c = rw c.drop_cell.ensures.same.sizes (take-pop c.requires c.drop_c
 pub returns-clause-taken : goal.returns-clause-taken
 returns-clause-taken c =
     let done =
-        take-off c.requires c.in_ok-c.ensures.value c.drop_cell.ensures.done (rw c.drop_cell.ensures.same.sizes at c.pop.ensures.popped)
+    take-off c.requires c.in_ok-c.ensures.value c.drop_cell.ensures.done (rw c.drop_cell.ensures.same.sizes at c.pop.ensures.popped)
     in search rules
