@@ -138,6 +138,7 @@ fn take_input<R: Read, W: Write>(
     take_all(from, to, &mut listing, input, buffer)
 }
 
+// The buffers are arrays on the stack: with a `Vec` the program could run out of memory before the first line.
 fn main(rt: HostRuntime) -> io::Result<()> {
     let mut state = [0u8; listing::STATE_SIZE];
     let mut input = [0u8; CHUNK_SIZE];
