@@ -4,7 +4,8 @@ use Rattle.std.proofs.Common.{◌∙◌, append_assoc, zero-add, arith}
 use Rattle.machine.specs.Basics.{ascii}
 use Rattle.machine.specs.Machine.{Machine, asleep}
 use Rattle.machine.specs.Message.{decimal}
-use Rattle.machine.specs.Print.{print_up, print_queue, print_line}
+use Rattle.machine.specs.Outcome.{refused}
+use Rattle.machine.specs.Print.{print_up, print_queue, print_reply, print_line}
 use Rattle.state.specs.Fields as fields
 use Rattle.state.specs.Abs.{machine_of}
 use Rattle.state.specs.Places.{mem_in}
@@ -102,4 +103,27 @@ unfolding ascii print_line
 line-put p₁ p₂ p₃ p₄ p₅ =
     record {
       put = put_as (put_join (put_join (put_join (put_join p₁ p₂) p₃.put) p₄) p₅.put) (simp append_assoc) (omega arith);
+    }
+
+-- The state is well formed, and there is room for the line of a step that is refused.
+pub record RefusedAsks (z : Sizes) (s out : List ℕ) (at : ℕ) : Type 0 where
+  pub holds : Holds z s 0
+  pub room : Room (line_most z []) out at
+
+-- The line of step n, which is refused with the number k, stands in out from `at` to r.
+pub record RefusedPrinted (z : Sizes) (s : List ℕ) (n k : ℕ) (out : List ℕ) (at : ℕ) (out' : List ℕ) (r : ℕ) : Type 0 where
+  pub put : Put (line_most z []) out at (print_line n (refused k) (machine_in z s)) out' r
+
+pub refused-put
+    : {z : Sizes} {s : List ℕ} {n k : ℕ} {out : List ℕ} {at : ℕ} {out₁ out₂ out₃ out₄ out₅ : List ℕ} {r₁ r₂ r₃ r₄ r₅ : ℕ}
+    → Put 20 out at (decimal n) out₁ r₁
+    → Put 1 out₁ r₁ (59 ∷ []) out₂ r₂
+    → Put 28 out₂ r₂ (print_reply (refused k)) out₃ r₃
+    → Put 1 out₃ r₃ (59 ∷ []) out₄ r₄
+    → FieldsPut z s out₄ r₄ out₅ r₅
+    → RefusedPrinted z s n k out at out₅ r₅
+unfolding ascii print_line
+refused-put p₁ p₂ p₃ p₄ p₅ =
+    record {
+      put = put_as (put_join (put_join (put_join (put_join p₁ p₂) p₃) p₄) p₅.put) (simp append_assoc) (omega arith);
     }

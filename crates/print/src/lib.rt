@@ -4,7 +4,7 @@
 ghost use Rattle.std.specs.Prelude.{◌≡◌, ◌∷◌, [], ◌++◌, ◌+◌, ◌≤◌, length, Result, Ok, Err};
 ghost use Rattle.machine.specs.Message.{decimal};
 ghost use Rattle.machine.specs.Outcome as machine;
-ghost use Rattle.machine.specs.Print.{print_answer};
+ghost use Rattle.machine.specs.Print.{print_answer, print_reply};
 ghost use Rattle.print.specs.Put.{Room, Put};
 ghost use Rattle.print.specs.Width.{Wide};
 ghost use Rattle.print.specs.Decimal.{Fronted};
@@ -12,7 +12,7 @@ ghost use Rattle.print.specs.Reply.{with_text, ReplyAsks, Replied};
 ghost use Rattle.print.specs.Pids.{PidAsks, PidPut, UpAsks, UpPut};
 ghost use Rattle.print.specs.Rest.{RestAsks, RestPut};
 ghost use Rattle.print.specs.Queue.{QueueAsks, QueuePut};
-ghost use Rattle.print.specs.Line.{CountsAsks, CountsPut, FieldsAsks, FieldsPut, LineAsks, Printed};
+ghost use Rattle.print.specs.Line.{CountsAsks, CountsPut, FieldsAsks, FieldsPut, LineAsks, Printed, RefusedAsks, RefusedPrinted};
 
 use outcome::{Refusal, Reply};
 use state::{Index, View, field};
@@ -148,6 +148,15 @@ impl Out<'_> {
         }
     }
 
+    // Writes `refused` and a number.
+    fn refused(&mut self, number: u8)
+        requires { Room 28 self.old.bytes.now self.old.used }
+        ensures put { Put 28 self.old.bytes.now self.old.used (print_reply (machine.refused number)) self.new.bytes.now self.new.used }
+        ensures name { self.new.bytes.ghost_name ≡ self.old.bytes.ghost_name }
+    {
+        self.number(b"refused ", u64::from(number));
+    }
+
     // Writes an answer, or the number of a refusal.
     fn reply(&mut self, reply: Result<Reply, Refusal>, text: &[u8])
         requires { ReplyAsks self.old.bytes.now self.old.used reply text.now }
@@ -156,7 +165,7 @@ impl Out<'_> {
     {
         match reply {
             Ok(answer) => self.answer(answer, text),
-            Err(refusal) => self.number(b"refused ", u64::from(refusal.number())),
+            Err(refusal) => self.refused(refusal.number()),
         }
     }
 
@@ -243,6 +252,19 @@ impl Out<'_> {
         self.decimal(n);
         self.text(b";");
         self.reply(reply, text);
+        self.text(b";");
+        self.fields(v);
+    }
+
+    // Writes the line of step `n`, which is refused with any number, also one that the table of refusals does not have.
+    pub fn refused_line(&mut self, n: u64, number: u8, v: &View)
+        requires { RefusedAsks v.now.sizes v.now.bytes.now self.old.bytes.now self.old.used }
+        ensures put { RefusedPrinted v.now.sizes v.now.bytes.now n number self.old.bytes.now self.old.used self.new.bytes.now self.new.used }
+        ensures name { self.new.bytes.ghost_name ≡ self.old.bytes.ghost_name }
+    {
+        self.decimal(n);
+        self.text(b";");
+        self.refused(number);
         self.text(b";");
         self.fields(v);
     }

@@ -54,6 +54,15 @@ fn in_words(number: u64, first: u64, second: u64, length: u64) -> Words
     }
 }
 
+impl Words {
+    // A refusal in words: its number alone, any number, also one that the table of refusals does not have.
+    pub fn refused(number: u8) -> Words
+        ensures { result ≡ the_words number 0 0 0 }
+    {
+        in_words(u64::from(number), 0, 0, 0)
+    }
+}
+
 // An answer in words; of a refusal there is its number alone.
 impl From<Result<Reply, Refusal>> for Words {
     ghost from_gives = { WordsAre };
@@ -75,7 +84,7 @@ impl From<Result<Reply, Refusal>> for Words {
             Ok(Reply::Child { pid, length }) => in_words(CHILD, pid, 0, length as u64),
             Ok(Reply::Idle) => in_words(IDLE, 0, 0, 0),
             Ok(Reply::End) => in_words(END, 0, 0, 0),
-            Err(refusal) => in_words(u64::from(refusal.number()), 0, 0, 0),
+            Err(refusal) => Words::refused(refusal.number()),
         }
     }
 }
