@@ -1,9 +1,10 @@
 -- A number in decimal, digit by digit.
-use Rattle.std.specs.Prelude.{if◌then◌else◌, ◌≡◌, refl, Bool, true, false, ◌&&◌, List, [], ◌∷◌, ℕ, suc, ◌+◌, ◌-◌, ◌*◌, ◌^◌, ◌≤◌, ◌<◌, ◌⊎◌, leb, ltb, length, get_or, drop}
+use Rattle.std.specs.Prelude.{if◌then◌else◌, ◌≡◌, ◌≢◌, refl, Bool, true, false, ◌&&◌, List, [], ◌∷◌, ℕ, suc, ◌+◌, ◌-◌, ◌*◌, ◌^◌, ◌≤◌, ◌<◌, ◌⊎◌, leb, ltb, length, get_or, drop}
 use Rattle.std.proofs.Common.{sym, ap, ◌∙◌, ⊎_elim, add-one, arith, lt-ltb, le-ltb, ltb-true, le-leb, leb-true, drop_of_length-le, drop-cons}
 use Rattle.std.proofs.Math.Option.{none, some}
 use Rattle.std.proofs.lemmas.Bool.{lt-leb}
-use Rattle.machine.specs.Parse.{value_from, number}
+use Rattle.machine.specs.Parse.{first_word, after_space, value_from, number}
+use Rattle.parse.specs.Words.{length-word, at-space, at-letter, at-end}
 
 -- One byte of a number.
 module _ (v b : ℕ) (bs : List ℕ) where
@@ -93,3 +94,46 @@ module _ {word : List ℕ} {v i : ℕ} (w : Digits word v i) where
   pub digits-end : length word ≤ i → number word ≡ some v
   unfolding value_from
   digits-end h = w.read ∙ rw (drop_of_length-le word {i = i} h, lt-ltb v (2 ^ 64) w.small)
+
+-- The first i bytes of a line are of its first word, and digits of the value v.
+pub record DigitsIn (line : List ℕ) (v i : ℕ) : Type 0 where
+  pub within : i ≤ length (first_word line)
+  pub digits : Digits (first_word line) v i
+
+-- A first word that is empty is no number.
+pub in-empty : (line : List ℕ) → length line ≡ 0 → number (first_word line) ≡ none
+in-empty line e = number-empty (first_word line) (omega (arith, e, length-word line))
+
+pub in-blank : (line : List ℕ) → 0 < length line → get_or line 0 0 ≡ 32 → number (first_word line) ≡ none
+in-blank line h e = number-empty (first_word line) (at-space line 0 h (omega arith) e).0
+
+pub in-start : (line : List ℕ) → 0 < length line → get_or line 0 0 ≢ 32 → DigitsIn line 0 0
+in-start line h n = let q = at-letter line 0 h (omega arith) n in record { within = omega arith; digits = digits-start (first_word line) q.0 }
+
+module _ {line : List ℕ} {v i : ℕ} (w : DigitsIn line v i) where
+  module _ (h : i < length line) where
+    pub in-space : get_or line i 0 ≡ 32 → (number (first_word line) ≡ some v) × (after_space line ≡ some (drop (i + 1) line))
+    in-space e = let q = at-space line i h w.within e in (digits-end w.digits (omega (arith, q.0)), rw (add-one i) q.1)
+
+    module _ (n : get_or line i 0 ≢ 32) where
+      letter : (i < length (first_word line)) × (get_or (first_word line) i 0 ≡ get_or line i 0)
+      letter = at-letter line i h w.within n
+
+      pub in-other : (get_or line i 0 < 48) ⊎ (57 < get_or line i 0) → number (first_word line) ≡ none
+      in-other o = digits-other w.digits letter.0 (rw letter.1 o)
+
+      module _ (l : 48 ≤ get_or line i 0) (m : get_or line i 0 ≤ 57) where
+        pub in-big : 2 ^ 64 ≤ v * 10 + (get_or line i 0 - 48) → number (first_word line) ≡ none
+        in-big t = digits-big w.digits letter.0 (rw letter.1 l) (rw letter.1 m) (rw letter.1 t)
+
+        pub in-more : v * 10 + (get_or line i 0 - 48) < 2 ^ 64 → DigitsIn line (v * 10 + (get_or line i 0 - 48)) (i + 1)
+        in-more s =
+            record {
+              within = omega (arith, letter.0);
+              digits = rw (← letter.1) (digits_more w.digits letter.0 (rw letter.1 l) (rw letter.1 m) (rw letter.1 s));
+            }
+
+  pub in-end : length line ≤ i → (number (first_word line) ≡ some v) × (after_space line ≡ none)
+  in-end h =
+      let e : length (first_word line) ≤ length line = length-word line in
+      (digits-end w.digits (omega arith), at-end line (omega (arith, w.within)))

@@ -1,8 +1,8 @@
 -- The first word of a line, and what stands behind it.
-use Rattle.std.specs.Prelude.{if◌then◌else◌, ◌≡◌, refl, Bool, true, false, not, cond, ◌==◌, List, [], ◌∷◌, ℕ, zero, suc, ◌+◌, ◌≤◌, ◌<◌, eqb, ltb, length, take, drop, Some, None, MatchOption, is_some, IsTrue, ◌↔◌, unwrap_or}
+use Rattle.std.specs.Prelude.{if◌then◌else◌, ◌≡◌, ◌≢◌, refl, Bool, true, false, not, cond, ◌==◌, List, [], ◌∷◌, ℕ, zero, suc, ◌+◌, ◌≤◌, ◌<◌, eqb, ltb, length, get_or, take, drop, Some, None, MatchOption, is_some, IsTrue, ◌↔◌, unwrap_or}
 use Rattle.std.specs.Prelude as rust
 use Rattle.std.specs.List.{position, position_or_len}
-use Rattle.std.proofs.Common.{sym, ap, arith, length-take, length-take-le, ltb-true, ltb-false}
+use Rattle.std.proofs.Common.{sym, ap, arith, length-take, length-take-le, ltb-true, ltb-false, eq-eqb, ne_eqb}
 use Rattle.std.proofs.Math.Option.{Option, none, some}
 use Rattle.std.proofs.lemmas.Bool.{false≢true}
 use Rattle.machine.specs.Parse.{first_word, after_space, bytes_in}
@@ -88,6 +88,51 @@ length-word (b ∷ bs) = go (eqb b 32) (length-word bs)
     go : (c : Bool) → length (first_word bs) ≤ length bs → length (if c then [] else b ∷ first_word bs) ≤ suc (length bs)
     go true r = omega arith
     go false r = omega arith
+
+-- A byte that is in the first word or just behind it: a space is behind it, another byte is in it.
+pub at-space : (line : List ℕ) (i : ℕ) → i < length line → i ≤ length (first_word line) → get_or line i 0 ≡ 32
+    → (length (first_word line) ≡ i) × (after_space line ≡ some (drop (suc i) line))
+unfolding first_word after_space
+at-space [] i h k s = absurd (omega arith)
+at-space (b ∷ bs) zero h k s = go (eqb b 32) (eq-eqb b 32 s)
+  where
+    go : (c : Bool) → c ≡ true
+        → (length (if c then [] else b ∷ first_word bs) ≡ 0) × ◌≡◌ {A = Option (List ℕ)} (elim c [ true ↦ some bs | false ↦ after_space bs ]) (some bs)
+    go true e = (refl, refl)
+    go false e = absurd (false≢true e)
+at-space (b ∷ bs) (suc i) h k s = go (eqb b 32) k (at-space bs i (omega arith))
+  where
+    go : (c : Bool) → suc i ≤ length (if c then [] else b ∷ first_word bs)
+        → (i ≤ length (first_word bs) → get_or bs i 0 ≡ 32 → (length (first_word bs) ≡ i) × (after_space bs ≡ some (drop (suc i) bs)))
+        → (length (if c then [] else b ∷ first_word bs) ≡ suc i)
+        × ◌≡◌ {A = Option (List ℕ)} (elim c [ true ↦ some bs | false ↦ after_space bs ]) (some (drop (suc i) bs))
+    go true k r = absurd (omega arith)
+    go false k r = let q = r (omega arith) s in (omega (arith, q.0), q.1)
+
+pub at-letter : (line : List ℕ) (i : ℕ) → i < length line → i ≤ length (first_word line) → get_or line i 0 ≢ 32
+    → (i < length (first_word line)) × (get_or (first_word line) i 0 ≡ get_or line i 0)
+unfolding first_word
+at-letter [] i h k s = absurd (omega arith)
+at-letter (b ∷ bs) zero h k s = rw (ne_eqb b 32 s) (omega arith, refl)
+at-letter (b ∷ bs) (suc i) h k s = go (eqb b 32) k (at-letter bs i (omega arith))
+  where
+    go : (c : Bool) → suc i ≤ length (if c then [] else b ∷ first_word bs)
+        → (i ≤ length (first_word bs) → get_or bs i 0 ≢ 32 → (i < length (first_word bs)) × (get_or (first_word bs) i 0 ≡ get_or bs i 0))
+        → (suc i < length (if c then [] else b ∷ first_word bs)) × (get_or (if c then [] else b ∷ first_word bs) (suc i) 0 ≡ get_or bs i 0)
+    go true k r = absurd (omega arith)
+    go false k r = let q = r (omega arith) s in (omega (arith, q.0), q.1)
+
+-- A first word that is the whole line has nothing behind it.
+pub at-end : (line : List ℕ) → length line ≤ length (first_word line) → after_space line ≡ none
+unfolding first_word after_space
+at-end [] h = refl
+at-end (b ∷ bs) h = go (eqb b 32) h (at-end bs)
+  where
+    go : (c : Bool) → suc (length bs) ≤ length (if c then [] else b ∷ first_word bs)
+        → (length bs ≤ length (first_word bs) → after_space bs ≡ none)
+        → ◌≡◌ {A = Option (List ℕ)} (elim c [ true ↦ some bs | false ↦ after_space bs ]) none
+    go true h r = absurd (omega arith)
+    go false h r = r (omega arith)
 
 -- Whether the first nine bytes have no space says whether the first word has more than eight.
 pub long-word : (line : List ℕ) (o : rust.Option ℕ) (r : Bool) → 8 < length line → o ≡ position (λ (b : ℕ). b == 32) (take 9 line) → is_some o ≡ not r

@@ -132,21 +132,27 @@ fn has_long_word(line: &[u8]) -> bool
     WORD_MOST < line.len() && space(&line[..WORD_MOST + 1]).is_none()
 }
 
-// The number that a word is in decimal: digits alone, of a number below 2^64.
-fn number(word: &[u8]) -> Option<u64>
-    ensures { MatchOption result (number word.now ≡ none) (λ x. number word.now ≡ some x) }
+// The number that the first word of a line is in decimal, and what stands behind the first space, where there is one: digits alone,
+// of a number below 2^64. Looks at no byte behind the first that tells that there is none.
+fn first_number(line: &[u8]) -> Option<(u64, Option<&[u8]>)>
+    ensures found { IfSome result (λ r. number (first_word line.now) ≡ some r.0) }
+    ensures rest { IfSome result (λ r. rest_of r.1 ≡ after_space line.now) }
+    ensures none { IfNone result (number (first_word line.now) ≡ none) }
 {
-    if word.is_empty() {
+    if line.is_empty() || line[0] == b' ' {
         return None;
     }
     let mut value: u64 = 0;
-    for b in word {
+    for (i, b) in line.iter().enumerate() {
+        if *b == b' ' {
+            return Some((value, Some(&line[i + 1..])));
+        }
         if !b.is_ascii_digit() {
             return None;
         }
         value = value.checked_mul(10)?.checked_add(u64::from(*b - b'0'))?;
     }
-    Some(value)
+    Some((value, None))
 }
 
 // Reads what stands behind a word as exactly so many numbers.
@@ -156,8 +162,8 @@ fn read_numbers(rest: Option<&[u8]>, numbers: &mut [u64]) -> Option<()>
 {
     let mut rest = rest;
     for n in numbers.iter_mut() {
-        let (word, more) = split(rest?);
-        *n = number(word)?;
+        let (value, more) = first_number(rest?)?;
+        *n = value;
         rest = more;
     }
     match rest {

@@ -12,19 +12,17 @@ returns-in_err-rest-clause-unread c =
     let e = c.in_err-rest.was in
     rw c.from_residual.ensures (filled-few c.loop-n.invariant c.loop-n.auto.numbers (omega arith) (ap rest_of e))
 
-pub returns-in_err-n-clause-unread : goal.returns-in_err-n-clause-unread
-returns-in_err-n-clause-unread c =
+pub returns-in_err-value-clause-unread : goal.returns-in_err-value-clause-unread
+returns-in_err-value-clause-unread c =
     let e = c.in_ok-rest.was in
-    let n = c.in_err-n.ensures in
-    rw c.from_residual-in_err-n.ensures
-    (filled-none c.loop-n.invariant c.loop-n.auto.numbers _ (ap rest_of e) (rw c.split.ensures.word at n))
+    rw c.from_residual-in_err-value.ensures
+    (filled-none c.loop-n.invariant c.loop-n.auto.numbers _ (ap rest_of e) c.in_err-value.ensures.none)
 
 pub loop-n-preserved : goal.loop-n-preserved
 loop-n-preserved c =
     let e = c.in_ok-rest.was in
-    let n = c.in_ok-n.ensures in
-    rw c.split.ensures.rest
-    (filling_more c.loop-n.invariant c.loop-n.auto.numbers _ (ap rest_of e) (omega arith) (rw c.split.ensures.word at n))
+    rw c.in_ok-value.ensures.rest
+    (filling_more c.loop-n.invariant c.loop-n.auto.numbers _ (ap rest_of e) (omega arith) c.in_ok-value.ensures.found)
 
 pub returns-in-None-clause-read : goal.returns-in-None-clause-read
 returns-in-None-clause-read c = filled-end c.loop-n.invariant c.loop-n.auto.numbers (omega arith) (ap rest_of c.in-None.is)
