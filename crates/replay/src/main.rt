@@ -1,7 +1,7 @@
 // Replays lists of steps: the listing that the machine gives for each is compared with the one that is kept.
 // Its arguments come in threes: the sizes as P,R,Q,K,C,HZ; a file of steps; the listing that is kept of it. It ends at the first list that does not
 // agree, at sizes of no state, at a file that cannot be read whole or at a rest of arguments, names it, and says how many agreed. It allocates
-// nothing: its buffers are arrays on the stack.
+// nothing: its buffers are arrays on the stack, since with a `Vec` a list could run out of memory, and many lists took three times the time.
 #![tactic(auto)]
 
 ghost use Rattle.std.specs.Prelude.{◌+◌, ◌^◌, ◌≤◌, ◌<◌, length};
@@ -145,6 +145,7 @@ fn compare(s: &mut [u8], input: &[u8], kept: &[u8]) -> Option<u64> {
 }
 
 // Reads until the buffer is full, the input ends or a read fails: how many bytes it put at the front of the buffer.
+// `read_to_end` needs a `Vec`, and goes on where a read was interrupted.
 fn read_full<R: Read>(from: &mut R, buffer: &mut [u8]) -> usize
     ensures { result ≤ length buffer.new }
 {
