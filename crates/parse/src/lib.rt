@@ -144,10 +144,10 @@ fn first_number(line: &[u8]) -> Option<(u64, Option<&[u8]>)>
     }
     let mut value: u64 = 0;
     for (i, b) in line.iter().enumerate() {
-        if *b == b' ' {
-            return Some((value, Some(&line[i + 1..])));
-        }
         if !b.is_ascii_digit() {
+            if *b == b' ' {
+                return Some((value, Some(&line[i + 1..])));
+            }
             return None;
         }
         value = value.checked_mul(10)?.checked_add(u64::from(*b - b'0'))?;
