@@ -30,14 +30,15 @@ fn take_chunk<W: Write>(
     ensures sizes { listing.new.machine.state.sizes ≡ listing.old.machine.state.sizes }
 {
     let mut rest = chunk;
+    let mut out = Out {
+        bytes: buffer,
+        used: 0,
+    };
     while !rest.is_empty() {
-        let mut out = Out {
-            bytes: &mut *buffer,
-            used: 0,
-        };
         rest = listing.feed(rest, &mut out);
         let used = out.used;
-        to.write_all(&buffer[..used])?;
+        to.write_all(&out.bytes[..used])?;
+        out.used = 0;
     }
     Ok(())
 }

@@ -7,8 +7,9 @@ use Rattle.steps.proofs.take_chunk.Given as goal
 abbrev pub invariant-loop-rest : goal.invariant-loop-rest
 invariant-loop-rest g l =
     record {
-      taking : Taking l.initial.listing.machine.state.sizes l.chunk l.initial.listing.machine.state.bytes.now l.initial.listing.held l.initial.listing.have l.initial.listing.number l.listing.machine.state.bytes.now l.listing.held l.buffer (passed l.chunk l.rest) l.listing.have l.listing.number;
+      taking : Taking l.initial.listing.machine.state.sizes l.chunk l.initial.listing.machine.state.bytes.now l.initial.listing.held l.initial.listing.have l.initial.listing.number l.listing.machine.state.bytes.now l.listing.held l.out.bytes.now (passed l.chunk l.rest) l.listing.have l.listing.number;
       rest : IsRest l.chunk l.rest;
+      empty : l.out.used ≡ 0;
       sizes : l.listing.machine.state.sizes ≡ l.initial.listing.machine.state.sizes;
     }
 
