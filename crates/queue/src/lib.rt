@@ -23,8 +23,7 @@ pub struct RunQueue {
     pub asleep: Count,
 }
 
-// The fields that hold the first and the last of a queue. It derives only these: the names of fields are neither printed nor compared. Its methods
-// are inlined, so that fields that are constants cost no match.
+// The fields that hold the first and the last of a queue. It derives only these: the names of fields are neither printed nor compared.
 #[derive(Clone, Copy)]
 pub struct Fields {
     pub head: Field<Link>,
@@ -33,7 +32,6 @@ pub struct Fields {
 
 impl Fields {
     // The queue as the fields of record `i` hold it.
-    #[inline(always)]
     pub fn load(self, s: &State, i: Index) -> RunQueue
         requires { HeldAsks s.now.sizes s.now.bytes.now (slot_of self.head 2) (slot_of self.tail 2) i }
         ensures { Held s.now.sizes s.now.bytes.now (slot_of self.head 2) (slot_of self.tail 2) i (ends result) }
@@ -46,7 +44,6 @@ impl Fields {
     }
 
     // Stores the first and the last of the queue in the fields of record `i`.
-    #[inline(always)]
     pub fn store(self, s: &mut State, i: Index, q: RunQueue)
         requires reach { HeldAsks s.old.sizes s.old.bytes.now (slot_of self.head 2) (slot_of self.tail 2) i }
         requires head { IsLink q.head }
@@ -59,7 +56,6 @@ impl Fields {
     }
 
     // Puts process `i` last in the queue of record `at`.
-    #[inline(always)]
     pub fn push(self, s: &mut State, at: Index, i: Index)
         requires { PushAtAsks s.old.sizes s.old.bytes.now (slot_of self.head 2) (slot_of self.tail 2) at i }
         ensures same { Same s.old s.new }
@@ -71,7 +67,6 @@ impl Fields {
     }
 
     // Takes the first process off the queue of record `at`: none where nobody is in it.
-    #[inline(always)]
     pub fn pop(self, s: &mut State, at: Index) -> Option<Index>
         requires { PopAtAsks s.old.sizes s.old.bytes.now (slot_of self.head 2) (slot_of self.tail 2) at }
         ensures same { Same s.old s.new }

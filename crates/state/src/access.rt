@@ -77,8 +77,7 @@ impl Sizes {
 }
 
 impl View<'_> {
-    // A field of record `i`. Inlined, as the next two, so that a field that is a constant is known where its place is made.
-    #[inline(always)]
+    // A field of record `i`.
     pub fn get<T: Number>(&self, f: Field<T>, i: Index) -> T
         requires { ReachIn self.now.sizes self.now.bytes.now (slot_of f T.width) i }
         ensures value { T.number result ≡ cell_in self.now.sizes self.now.bytes.now (slot_of f T.width) i }
@@ -101,7 +100,6 @@ impl State<'_> {
     }
 
     // A field of record `i`.
-    #[inline(always)]
     pub fn get<T: Number>(&self, f: Field<T>, i: Index) -> T
         requires { ReachIn self.now.sizes self.now.bytes.now (slot_of f T.width) i }
         ensures value { T.number result ≡ cell_in self.now.sizes self.now.bytes.now (slot_of f T.width) i }
@@ -111,7 +109,6 @@ impl State<'_> {
     }
 
     // Stores a field of record `i`.
-    #[inline(always)]
     pub fn set<T: Number>(&mut self, f: Field<T>, i: Index, v: T)
         requires reach { ReachIn self.old.sizes self.old.bytes.now (slot_of f T.width) i }
         requires fits { T.fits v }
