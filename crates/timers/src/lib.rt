@@ -28,7 +28,7 @@ const STRIDE: usize = 24;
 const LINK: usize = 2;
 
 // `field::TIMER_HEAD` and `TIMER_NEXT` as the numbers that their links are. Here a link goes from one field to another as its number: made an
-// `Option` between the load and the store, a timer added at the head and removed takes seven tenths more time.
+// `Option` between the load and the store, a timer added at the head and removed takes up to twice the time.
 const FIRST: Field<u16> = Field(Region::Header, 34, PhantomData);
 
 const NEXT: Field<u16> = Field(Region::TimerLink, 0, PhantomData);
